@@ -1,6 +1,6 @@
 #!/usr/bin/env bash
-# The Conns of clients/go, which have clocks of their own: their laws over output captures under random scenarios, deadlines and ends, and Go's net/http
-# and other clients over Dialers, under the race detector and with the library for C if a C compiler is here. Nothing waits for a time of an output.
+# The Conns of clients/go, which have clocks of their own: their laws over output captures under random scenarios, and Go's net/http and other clients
+# over Dialers, under the race detector and with the library for C if a C compiler is here. Nothing waits for a time of an output.
 set -euo pipefail
 cd "$(dirname "$0")/.."
 . tests/lib.sh

@@ -30,6 +30,7 @@ mend() {
 
 if can "Python" python3; then
     for class in Search Prefixes; do passes "Python: $class" python3 -B clients/python/tests/test_search.py $class; done
+    passes "Python: executors" python3 -B clients/python/tests/test_executors.py
     host=python3
     for each in python3 /usr/bin/python3; do ! "$each" -c 'import hypothesis' 2> /dev/null || { host=$each; break; }; done
     if "$host" -c 'import hypothesis' 2> /dev/null; then
@@ -51,8 +52,8 @@ fi
 if can "Go" go gcc; then
     # go_test NAMES [TOP]: tests of the client, which go vets first, in this tree or another.
     go_test() { (cd "${2:-.}/clients/go" && go vet . && go test -count=1 -run "^($1)\$" .); }
-    for names in 'TestRows' 'TestWrongUses|TestPanics' 'TestFeedPrefixes' 'TestHints|TestKinds|TestSamePorts|TestOtherCaptures' 'TestScenario|TestReport|TestExplain' \
-        'TestEffects|TestIdleToxics' 'TestFuzzScenario|TestRoom'; do
+    for names in 'TestRows|TestWorkers' 'TestWrongUses|TestPanics|TestRuntimeErrors|TestContexts' 'TestFeedPrefixes' 'TestHints|TestKinds|TestSamePorts|TestOtherCaptures' \
+        'TestScenario|TestParsedScenarios|TestReport|TestExplain' 'TestEffects|TestIdleToxics' 'TestFuzzScenario|TestRoom'; do
         passes "Go: $names" go_test "$names"
     done
     passes "Go: the example" go_test Example_planted

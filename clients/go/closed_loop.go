@@ -1,6 +1,7 @@
 package toxicap
 
 import (
+	"context"
 	"errors"
 	"regexp"
 	"sort"
@@ -169,7 +170,7 @@ func outcomes(output Output, tick uint64) ([]loopOutcome, error) {
 	found := make([]loopOutcome, len(lines))
 	for number := range lines {
 		found[number].cut = notSent
-		for side, line := range lines[number] {
+		for side, line := range []Line{lines[number].Up, lines[number].Down} {
 			b, count := &found[number].lines[side], 0
 			for _, chunk := range line.Chunks {
 				count += len(chunk.Bytes)
@@ -237,9 +238,9 @@ func (r *loopRecording) newSession(begin int, client string, before *loopSession
 }
 
 // ClosedLoop gives what a client and a server who wait for one another would have done under a scenario; its page is docs/use/closed-loop.md. Capture,
-// scenario, hosts, seed and errors are those of Rehearse, and ErrUnsettled is one more. Equal arguments give equal bytes, those of the function in
-// Python.
-func ClosedLoop(capture, scenario, hosts []byte, seed uint64) (Loop, error) {
+// scenario, hosts, seed and errors are those of Rehearse; ErrUnsettled is one more, and the end of the context another. Equal arguments give equal
+// bytes, those of the function in Python.
+func ClosedLoop(ctx context.Context, capture, scenario, hosts []byte, seed uint64) (Loop, error) {
 	outputs, err := Rehearse(capture, [][]byte{scenario}, hosts, seed)
 	if err != nil {
 		return Loop{}, err
@@ -251,6 +252,9 @@ func ClosedLoop(capture, scenario, hosts []byte, seed uint64) (Loop, error) {
 		moved[s] = true
 	}
 	for round := 1; round <= MostRounds && err == nil; round++ {
+		if err = ctx.Err(); err != nil {
+			break
+		}
 		if moved, err = moveAll(sessions, moved, times, outputs[0]); err != nil {
 			break
 		}

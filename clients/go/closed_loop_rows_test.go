@@ -1,7 +1,10 @@
+//go:build cgo && linux && amd64
+
 package toxicap
 
 import (
 	"bytes"
+	"context"
 	"os"
 	"path/filepath"
 	"strconv"
@@ -23,7 +26,7 @@ func TestClosedLoop(t *testing.T) {
 			return content
 		}
 		seed, _ := strconv.ParseUint(string(read("seed")), 10, 64)
-		loop, err := ClosedLoop(read("capture"), read("scenario"), read("hosts"), seed)
+		loop, err := ClosedLoop(context.Background(), read("capture"), read("scenario"), read("hosts"), seed)
 		if err != nil {
 			t.Errorf("%s: %v", folder, err)
 		}

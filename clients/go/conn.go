@@ -5,6 +5,7 @@ import (
 	"io"
 	"math"
 	"net"
+	"net/netip"
 	"os"
 	"sync"
 	"syscall"
@@ -16,48 +17,66 @@ var ErrStillOpen = errors.New("toxicap: nothing comes any more, the connection s
 	"a client without one waits forever, so give it one (SetReadDeadline, or Timeout of a Dialer)")
 
 // A Conn is the client's end of a connection of an output capture, with a clock of its own, which begins at 0 when the connection is opened. No call
-// waits for that clock: a Read moves it on to the time of the next chunk. It gives bytes of one chunk, up to its room, so that borders are met; a live
-// Read may join chunks.
+// waits for that clock: a Read moves it on to the time of what it gives, and Advance by any time. Writes take no time, also if a toxic upstream delays
+// them in the capture.
 //
-// A deadline is as far away on this clock as it is from time.Now() when it is set, in whole milliseconds, rounded up. If nothing comes before it, a
-// Read moves the clock there, and its error is os.ErrDeadlineExceeded. After a FIN it is io.EOF, at a reset syscall.ECONNRESET, which comes once, and
-// on an open end ErrStillOpen. Writes take no time, also if a toxic upstream delays them in the capture.
+// A Read gives bytes of one chunk, up to its room, so that borders are met. If Joins is set it gives all that comes before a deadline, an end, or an
+// answer that waits for a further request, as to a client that is late to read: test a client both ways.
+//
+// A deadline is as far away on this clock as it is from time.Now() when it is set, in whole milliseconds, rounded up. One that is set again, such as that
+// of a context for several requests, keeps its time on the clock; the eight set last are known. If nothing comes before a deadline, a Read moves the
+// clock there, and its error is os.ErrDeadlineExceeded. After a FIN it is io.EOF, and on an open end ErrStillOpen. At a reset it is syscall.ECONNRESET,
+// once; a Write meets a reset whose time has come, also if bytes before it are not read.
 //
 // A client that reads in one goroutine while it writes in another, such as net/http, gets its Conns from a Dialer: there an answer waits for its
-// request. All methods may be called at the same time.
+// request. All methods may be called at the same time. The zero Conn is one on which nothing comes.
 type Conn struct {
-	limit time.Duration // how long a Read waits for the client, in real time
-	gates []gate        // what each arrival waits for, and last what would come after an open end; nil for nothing
+	Joins bool // set it before the first Read
 
-	mutex             sync.Mutex // of what follows
-	changed           chan struct{}
-	now               time.Duration
-	readBy, writeBy   time.Duration
-	coming            []Event // chunks, perhaps the first one in part, and the end
-	gate              int     // that of what comes next
-	written           []byte
-	passed, credit    int // how many bytes the last passed gate needed, and how many of those were missing
-	gone, shut, reset bool
+	requests            // what answers wait for
+	addresses [2]string // the client's and the server's
+
+	mutex       sync.Mutex // of what follows, and of requests
+	changed     chan struct{}
+	now         time.Duration
+	read, write deadline
+	known       []instant // the deadlines that were set last, the last one first
+	tellLate    func()    // is called when a deadline has come
+	coming      []arrival // chunks, perhaps the first one in part, and the end
+	written     []byte
+	hasRead     bool
+	gone, shut  bool
+	isReset     bool // whether the client has met the reset
 }
 
-// A gate is what a client has done before something comes.
-type gate struct {
-	need   int  // how many bytes it has written
-	closed bool // whether it has closed its side
+// An arrival is what comes, and what waits for: how many bytes the client has written before, and whether it has closed its side.
+type arrival struct {
+	Event
+	need   int
+	closed bool
 }
 
-const never = time.Duration(math.MaxInt64)
+const (
+	never    = time.Duration(math.MaxInt64)
+	openEnd  = "open" // the end of the arrivals of a line without an end
+	unheard  = "192.0.2.1:49152"
+	unserved = "192.0.2.2:80" // addresses for documentation, if a line has none
+)
 
-// NewConn opens a connection, one of those of Delivered. Its Read never waits, so its client is one that writes before it reads, or a parser. The two
-// lines in the other order give the server's end. If the proxy was disabled the error is syscall.ECONNREFUSED.
-func NewConn(connection [2]Line) (*Conn, error) {
-	down := connection[1]
-	c := &Conn{changed: make(chan struct{}), readBy: never, writeBy: never, coming: append([]Event{}, down.Chunks...)}
-	if down.End == nil {
-		return c, nil
+// NewConn opens a connection, one of those of Delivered. Its Read never waits, so its client is one that writes before it reads, or a parser. With the
+// two lines exchanged it is the server's end. If the proxy was disabled the error is syscall.ECONNREFUSED, and the Conn is closed.
+func NewConn(of Delivery) (*Conn, error) {
+	c := &Conn{addresses: [2]string{of.Client, of.Server}}
+	for _, chunk := range of.Down.Chunks {
+		c.coming = append(c.coming, arrival{Event: chunk})
 	}
-	if c.coming = append(c.coming, *down.End); down.End.End == "refused" {
-		return nil, c.failed("dial", os.NewSyscallError("connect", syscall.ECONNREFUSED))
+	end := Event{Time: never, End: openEnd}
+	if of.Down.End != nil {
+		end = *of.Down.End
+	}
+	c.coming = append(c.coming, arrival{Event: end})
+	if c.gone = end.End == "refused"; c.gone {
+		return c, c.failed("dial", os.NewSyscallError("connect", syscall.ECONNREFUSED))
 	}
 	return c, nil
 }
@@ -67,6 +86,23 @@ func (c *Conn) Now() time.Duration {
 	c.mutex.Lock()
 	defer c.mutex.Unlock()
 	return c.now
+}
+
+// Advance moves the clock on, as if the client did something else for this time.
+func (c *Conn) Advance(by time.Duration) {
+	c.mutex.Lock()
+	defer c.mutex.Unlock()
+	if by > 0 {
+		c.reach(c.now + by)
+	}
+	c.change()
+}
+
+// reach moves the clock on to a time, if that has not passed.
+func (c *Conn) reach(at time.Duration) {
+	if c.now < at {
+		c.now = at
+	}
 }
 
 // Written is what the client has written.
@@ -80,151 +116,145 @@ func (c *Conn) Written() []byte {
 func (c *Conn) Read(room []byte) (count int, err error) {
 	c.mutex.Lock()
 	defer c.mutex.Unlock()
-	if c.gone {
-		return 0, c.failed("read", net.ErrClosed)
-	}
-	if len(room) == 0 {
+	if len(room) == 0 && !c.gone {
 		return 0, nil
 	}
-	if err := c.wait(); err != nil {
+	if err := c.await(); err != nil {
 		return 0, err
 	}
-	if c.arrived() && c.coming[0].End == "" {
-		chunk := &c.coming[0]
-		count = copy(room, chunk.Bytes)
-		if chunk.Bytes = chunk.Bytes[count:]; len(chunk.Bytes) == 0 {
-			c.coming, c.gate = c.coming[1:], c.gate+1
+	for next := c.next(); next.End == "" && count < len(room) && c.isAsked(next) && c.isDue(next, count > 0); next = c.next() {
+		c.reach(next.Time)
+		size := copy(room[count:], next.Bytes)
+		if next.Bytes = next.Bytes[size:]; len(next.Bytes) > 0 {
+			c.coming[0] = next
+		} else {
+			c.coming = c.coming[1:]
 		}
-		return count, nil
+		count, c.answered, c.hasRead = count+size, len(c.written), true
 	}
-	if c.coming[0].End == "reset" && !c.reset {
-		c.reset = true
+	switch {
+	case count > 0:
+		return count, nil
+	case c.next().End == "reset" && !c.isReset:
+		c.isReset = true
 		return 0, c.failed("read", os.NewSyscallError("read", syscall.ECONNRESET))
 	}
 	return 0, io.EOF
 }
 
-// arrived tells whether the next chunk or the end has come, and passes its gate then.
-func (c *Conn) arrived() bool {
-	if len(c.coming) == 0 || c.coming[0].Time > c.now || !c.open() {
-		return false
-	}
-	c.pass()
-	return true
+// isDue tells whether a chunk is one that a Read gives, the first of it or one more.
+func (c *Conn) isDue(next arrival, more bool) bool {
+	return !more || c.Joins && next.Time < c.read.time()
 }
 
-// wait moves the clock on to what comes next, unless it is there. Its error is that of a Read.
-func (c *Conn) wait() error {
-	for c.readBy > c.now && !c.gone && !c.open() {
+// next gives what comes next.
+func (c *Conn) next() arrival {
+	if len(c.coming) == 0 {
+		return arrival{Event: Event{Time: never, End: openEnd}}
+	}
+	return c.coming[0]
+}
+
+// await waits until the client has done what comes next waits for, and moves the clock on to it. Its error is that of a Read.
+func (c *Conn) await() error {
+	for !c.gone && c.fault == nil && c.read.time() > c.now && !c.isAsked(c.next()) {
 		if err := c.waitForClient(); err != nil {
 			return err
 		}
 	}
-	due := never
-	if len(c.coming) > 0 {
-		due = c.coming[0].Time
-	}
+	next := c.next()
 	switch {
 	case c.gone:
 		return c.failed("read", net.ErrClosed)
-	case c.readBy <= c.now || c.readBy < due:
-		return c.late()
-	case len(c.coming) == 0:
+	case c.fault != nil:
+		return c.failed("read", c.fault)
+	case c.read.time() <= c.now || c.read.time() < next.Time:
+		return c.late("read", c.read)
+	case next.End == openEnd:
 		return ErrStillOpen
-	case c.now < due:
-		c.now = due
 	}
+	c.reach(next.Time)
 	return nil
 }
 
-// late moves the clock on to the deadline of reads.
-func (c *Conn) late() error {
-	if c.now < c.readBy {
-		c.now = c.readBy
+// late moves the clock on to the deadline of reads or writes.
+func (c *Conn) late(call string, by deadline) error {
+	c.reach(by.time())
+	if c.tellLate != nil {
+		c.tellLate()
 	}
-	return c.failed("read", os.ErrDeadlineExceeded)
+	return c.failed(call, os.ErrDeadlineExceeded)
 }
 
 // Write keeps the bytes, at once.
 func (c *Conn) Write(bytes []byte) (int, error) {
 	c.mutex.Lock()
 	defer c.mutex.Unlock()
-	met := len(c.coming) > 0 && c.coming[0].End == "reset" && c.arrived()
+	c.endDial()
+	meets := false
+	if len(c.coming) > 0 {
+		end := c.coming[len(c.coming)-1]
+		meets = end.End == "reset" && end.Time <= c.now && c.isAsked(end)
+	}
 	switch {
 	case c.gone:
 		return 0, c.failed("write", net.ErrClosed)
-	case c.writeBy <= c.now:
-		return 0, c.failed("write", os.ErrDeadlineExceeded)
-	case met && !c.reset:
-		c.reset = true
+	case c.fault != nil:
+		return 0, c.failed("write", c.fault)
+	case c.write.time() <= c.now:
+		return 0, c.late("write", c.write)
+	case meets && !c.isReset:
+		c.isReset = true
 		return 0, c.failed("write", os.NewSyscallError("write", syscall.ECONNRESET))
-	case met || c.shut:
+	case meets || c.shut:
 		return 0, c.failed("write", os.NewSyscallError("write", syscall.EPIPE))
 	}
-	c.written = append(c.written, bytes...)
+	count := c.take(bytes)
 	c.change()
-	return len(bytes), nil
+	if c.fault != nil {
+		return count, c.failed("write", c.fault)
+	}
+	return count, nil
 }
 
 // CloseWrite ends the client's side, as that of a net.TCPConn.
-func (c *Conn) CloseWrite() error {
-	c.mutex.Lock()
-	defer c.mutex.Unlock()
-	if c.gone {
-		return c.failed("close", net.ErrClosed)
-	}
-	c.shut = true
-	c.change()
-	return nil
-}
+func (c *Conn) CloseWrite() error { return c.end(&c.shut) }
 
 // Close ends the connection, and each call that waits.
-func (c *Conn) Close() error {
+func (c *Conn) Close() error { return c.end(&c.gone) }
+
+func (c *Conn) end(what *bool) error {
 	c.mutex.Lock()
 	defer c.mutex.Unlock()
 	if c.gone {
 		return c.failed("close", net.ErrClosed)
 	}
-	c.gone = true
+	*what = true
 	c.change()
 	return nil
 }
 
-// SetDeadline sets both deadlines.
-func (c *Conn) SetDeadline(at time.Time) error { return c.setDeadlines(at, &c.readBy, &c.writeBy) }
-
-// SetReadDeadline sets until when a Read waits on the connection's clock.
-func (c *Conn) SetReadDeadline(at time.Time) error { return c.setDeadlines(at, &c.readBy) }
-
-// SetWriteDeadline sets from when a Write fails.
-func (c *Conn) SetWriteDeadline(at time.Time) error { return c.setDeadlines(at, &c.writeBy) }
-
-func (c *Conn) setDeadlines(at time.Time, deadlines ...*time.Duration) error {
-	away := time.Until(at)
-	c.mutex.Lock()
-	defer c.mutex.Unlock()
-	if c.gone {
-		return c.failed("set", net.ErrClosed)
+// change has what waits look again.
+func (c *Conn) change() {
+	if c.changed != nil {
+		close(c.changed)
+		c.changed = nil
 	}
-	by := never
-	if at.IsZero() {
-	} else if away <= 0 {
-		by = c.now
-	} else if whole := (away-1)/time.Millisecond + 1; whole < (never-c.now)/time.Millisecond {
-		by = c.now + whole*time.Millisecond
-	}
-	for _, deadline := range deadlines {
-		*deadline = by
-	}
-	c.change()
-	return nil
 }
 
-// LocalAddr is an address for documentation, since an output line has none.
-func (c *Conn) LocalAddr() net.Addr { return &net.TCPAddr{IP: net.IPv4(192, 0, 2, 1), Port: 49152} }
+// LocalAddr is the recorded client's address, or one for documentation.
+func (c *Conn) LocalAddr() net.Addr { return tcpAddr(c.addresses[0], unheard) }
 
-// RemoteAddr is another address for documentation.
-func (c *Conn) RemoteAddr() net.Addr { return &net.TCPAddr{IP: net.IPv4(192, 0, 2, 2), Port: 80} }
+// RemoteAddr is the recorded server's address, or one for documentation.
+func (c *Conn) RemoteAddr() net.Addr { return tcpAddr(c.addresses[1], unserved) }
+
+func tcpAddr(text, without string) net.Addr {
+	addr, err := netip.ParseAddrPort(text)
+	if err != nil {
+		addr = netip.MustParseAddrPort(without)
+	}
+	return net.TCPAddrFromAddrPort(addr)
+}
 
 func (c *Conn) failed(call string, err error) error {
 	return &net.OpError{Op: call, Net: "tcp", Source: c.LocalAddr(), Addr: c.RemoteAddr(), Err: err}

@@ -2,38 +2,51 @@ package toxicap
 
 import (
 	"context"
+	"errors"
 	"fmt"
 	"net"
 	"os"
+	"strings"
 	"sync"
 	"syscall"
 	"time"
 )
 
-// once a client has written a part of a request, or has only to close, it has this long for the rest
-const settled = 50 * time.Millisecond
+// ErrNotDialled is the error of a Dialer that nobody used.
+var ErrNotDialled = errors.New("toxicap: no connection was dialled: have the client dial by the Dialer (Dial, DialContext, Transport)")
 
-// A Dialer opens the connections of an output capture one after another, for a client that dials by itself:
+// A Dialer opens the connections of an output capture for a client that dials by itself:
 //
-//	client := http.Client{Transport: &http.Transport{DialContext: dialer.DialContext}}
+//	client := http.Client{Transport: dialer.Transport()}
+//	defer dialer.Close()
 //
-// It takes any address: a client dials what its configuration names, and an output has recorded addresses alone. For a client of several servers make
-// a Dialer of each, with the numbers of its connections.
+// The address of a recorded server opens the next connection of that server, and any other address the next connection of all.
 //
-// An answer waits, in real time, until the client has written as many bytes as the recorded one had before it, and has closed its side if that one
-// had. If it has written some of them, or is only to close, that is 50 ms. If it writes nothing for Limit, or up to a deadline, the Read fails.
-// Record the client that is tested: after longer requests an answer may come early.
+// An answer waits until the client has written as many bytes as the recorded one had before it, and has closed its side if that one had. A client that
+// reads after a part of a request fails at once, with a *RequestError; one whose Read waits in a goroutine of its own has a second of real time to go
+// on. If it writes nothing for Limit, or up to a deadline, the Read fails. Record the client that is tested: after longer requests an answer may come
+// early, unless SameRequests is set.
 //
-// Timeouts of a client that are no deadlines of its connection, such as that of http.Client, do not see the connection's clock: set Timeout for them.
+// The deadline of a context that dials is the first deadline of the connection, until the client sets one, or goes on after a read. A client that has a
+// timer in place of deadlines does not see the connection's clock: set Timeout for it.
 type Dialer struct {
-	Limit   time.Duration // 10 seconds
-	Timeout time.Duration // if not 0, the first deadline of each connection on its clock, from its opening
+	Limit        time.Duration     // 10 seconds
+	Timeout      time.Duration     // if not 0, the first deadline of each connection on its clock, from its opening
+	SameRequests bool              // whether a Write of other bytes than the recorded client's fails
+	Joins        bool              // that of each Conn
+	Hosts        map[string]string // the addresses of names that a client dials, such as {"redis": "10.77.0.3"}
 
 	mutex sync.Mutex // of what follows
-	here  [][2]Line
-	there [][2]Line
+	all   []*offer
 	conns []*Conn
-	next  int
+	fault error // the first *RequestError
+}
+
+// An offer is a connection that is opened once.
+type offer struct {
+	number      int // in the report
+	here, there Delivery
+	isOpen      bool
 }
 
 // NewDialer makes a Dialer of connections, by their numbers in the report, or of all of them. Both captures are outputs of one recording, the second
@@ -43,35 +56,45 @@ func NewDialer(output, untouched []byte, connections ...int) (*Dialer, error) {
 	if err != nil {
 		return nil, err
 	}
-	d := &Dialer{Limit: 10 * time.Second}
-	numbers, err := chosen(connections, len(here))
-	for _, number := range numbers {
-		d.here, d.there = append(d.here, here[number]), append(d.there, there[number])
+	numbers, err := chosen(connections, here)
+	if err != nil {
+		return nil, err
 	}
-	return d, err
+	d := &Dialer{Limit: 10 * time.Second}
+	for _, number := range numbers {
+		d.all = append(d.all, &offer{number: number, here: here[number], there: there[number]})
+	}
+	return d, nil
 }
 
-// DialContext opens the next connection. Its error is syscall.ECONNREFUSED if that was refused, and after the last one.
+// DialContext opens the next connection. Its error is syscall.ECONNREFUSED if that was refused, and if none is left.
 func (d *Dialer) DialContext(ctx context.Context, network, address string) (net.Conn, error) {
 	if err := ctx.Err(); err != nil {
 		return nil, err
 	}
 	d.mutex.Lock()
 	defer d.mutex.Unlock()
-	number := d.next
-	if number == len(d.here) {
-		return nil, &net.OpError{Op: "dial", Net: network, Err: fmt.Errorf("connection %d of the %d that there are: %w", number+1, number,
-			os.NewSyscallError("connect", syscall.ECONNREFUSED))}
+	found, err := d.next(address)
+	if err != nil {
+		return nil, &net.OpError{Op: "dial", Net: network, Err: err}
 	}
-	d.next++
-	c, err := NewConn(d.here[number])
+	found.isOpen = true
+	c, err := NewConn(found.here)
 	if err != nil {
 		return nil, err
 	}
-	c.limit, c.gates = d.Limit, gatesOf(d.here[number][1], d.there[number])
+	c.Joins, c.coming = d.Joins, arrivalsOf(found.here.Down, found.there)
+	c.requests = requests{number: found.number, recorded: whole(found.there.Up), isSame: d.SameRequests, limit: d.Limit, tell: d.fail}
 	if d.Timeout > 0 {
-		c.readBy, c.writeBy = d.Timeout, d.Timeout
+		c.timeout = deadline{true, d.Timeout}
 	}
+	c.read = c.timeout
+	if at, is := ctx.Deadline(); is {
+		if by := c.timeOf(at); by < c.read.time() {
+			c.read, c.isOfDial = deadline{true, by}, true
+		}
+	}
+	c.write = c.read
 	d.conns = append(d.conns, c)
 	return c, nil
 }
@@ -81,6 +104,49 @@ func (d *Dialer) Dial(network, address string) (net.Conn, error) {
 	return d.DialContext(context.Background(), network, address)
 }
 
+// next gives the next connection for an address.
+func (d *Dialer) next(address string) (*offer, error) {
+	if len(d.all) == 0 {
+		return nil, ErrNoConnection
+	}
+	host, port, _ := net.SplitHostPort(address)
+	if addr, is := d.Hosts[host]; is {
+		address = net.JoinHostPort(addr, port)
+	}
+	isServer, all := false, []Delivery{}
+	for _, each := range d.all {
+		isServer, all = isServer || each.here.Server == address, append(all, each.here)
+	}
+	for _, each := range d.all {
+		if !each.isOpen && (!isServer || each.here.Server == address) {
+			return each, nil
+		}
+	}
+	return nil, fmt.Errorf("no connection is left for %s, there are %s: %w", address, servers(all), os.NewSyscallError("connect", syscall.ECONNREFUSED))
+}
+
+// servers names connections by their servers, in order.
+func servers(all []Delivery) string {
+	told := []string{}
+	for number, each := range all {
+		if number == 8 {
+			told = append(told, "..")
+			break
+		}
+		told = append(told, fmt.Sprintf("%d (%s)", number, each.Server))
+	}
+	return strings.Join(told, ", ")
+}
+
+// fail keeps what a client did wrong first. It is called while a Conn is locked.
+func (d *Dialer) fail(err error) {
+	d.mutex.Lock()
+	defer d.mutex.Unlock()
+	if d.fault == nil {
+		d.fault = err
+	}
+}
+
 // Conns gives the connections that were opened, in order.
 func (d *Dialer) Conns() []*Conn {
 	d.mutex.Lock()
@@ -88,70 +154,32 @@ func (d *Dialer) Conns() []*Conn {
 	return append([]*Conn{}, d.conns...)
 }
 
-// gatesOf gives what each arrival of a line waits for, and at an open end what would come next.
-func gatesOf(down Line, there [2]Line) (gates []gate) {
-	place := 0
-	for _, step := range stepsOf(down, there) {
-		gates, place = append(gates, gate{step.Need, step.Closed}), place+len(step.Bytes)
+// Close closes the connections that were opened. Its error is the first *RequestError, or ErrNotDialled.
+func (d *Dialer) Close() error {
+	for _, c := range d.Conns() {
+		c.Close()
 	}
-	if down.End == nil {
-		r := recordingOf(there)
-		next := r.step(r.answeredAt(place), Event{})
-		gates = append(gates, gate{next.Need, next.Closed})
-	}
-	return gates
-}
-
-// open tells whether the client has done what the next arrival waits for.
-func (c *Conn) open() bool {
-	return c.gate >= len(c.gates) || len(c.written)+c.credit >= c.gates[c.gate].need && (c.shut || !c.gates[c.gate].closed)
-}
-
-// pass notes that something came for the bytes up to here.
-func (c *Conn) pass() {
-	if c.gate < len(c.gates) {
-		c.passed = c.gates[c.gate].need
-	}
-}
-
-// change has what waits look again.
-func (c *Conn) change() {
-	close(c.changed)
-	c.changed = make(chan struct{})
-}
-
-// waitForClient waits for a change, or as long as the client has for it: then what it has not done counts as done, or is an error.
-func (c *Conn) waitForClient() error {
-	changed, need := c.changed, c.gates[c.gate].need
-	most, begun := c.limit, len(c.written)+c.credit > c.passed || len(c.written)+c.credit >= need
-	if begun {
-		most = settled
-	}
-	expires := c.readBy-c.now < most
-	if expires {
-		most = c.readBy - c.now
-	}
-	timer := time.NewTimer(most)
-	defer timer.Stop()
-	c.mutex.Unlock()
-	ended := false
-	select {
-	case <-changed:
-	case <-timer.C:
-		ended = true
-	}
-	c.mutex.Lock()
-	switch {
-	case !ended:
-		return nil
-	case begun && !expires:
-		if missing := need - len(c.written); c.credit < missing {
-			c.credit = missing
+	d.mutex.Lock()
+	defer d.mutex.Unlock()
+	for _, each := range d.all {
+		if each.isOpen {
+			return d.fault
 		}
-		c.gates[c.gate].closed = false
-		return nil
-	case c.readBy < never:
-		return c.late()
 	}
-	return c.failed("read", fmt.Errorf("the client has written %d bytes, and the recorded one %d before the next answer", len(c.written), need))
+	return ErrNotDialled
+}
+
+// arrivalsOf gives what comes on a line, and what each waits for; at an open end what would come next.
+func arrivalsOf(down Line, there Delivery) (coming []arrival) {
+	place := 0
+	steps, r := stepsOf(down, there), recordingOf(there)
+	for number, chunk := range down.Chunks {
+		coming, place = append(coming, arrival{chunk, steps[number].Need, steps[number].Closed}), place+len(chunk.Bytes)
+	}
+	if down.End != nil {
+		last := steps[len(steps)-1]
+		return append(coming, arrival{*down.End, last.Need, last.Closed})
+	}
+	next := r.step(r.answeredAt(place), Event{})
+	return append(coming, arrival{Event{Time: never, End: openEnd}, next.Need, next.Closed})
 }

@@ -4,8 +4,10 @@
 // when. A Conn gives that to a client as a net.Conn with a clock of its own, so that nothing waits, and a Dialer to one that dials; a Player serves
 // it to a real client in real time. ClosedLoop has client and server wait for one another under a scenario. ParseReport gives the numbers of a
 // report, Explain why nothing happened. LeastSeed, Shrink, FeedPrefixes and FuzzScenario look for what makes a test fail, and the package golden
-// compares outputs with golden files. The static library is in the package: Rehearse, Reports and what calls them need cgo, and Linux on x86-64-v2.
-// All else works on stored outputs elsewhere, too.
+// compares outputs with golden files, and gives Dialers of them. The static library is in the package: Rehearse, Reports and what calls them need cgo,
+// and Linux on x86-64-v2; elsewhere their error is ErrNoLibrary. All else works on stored outputs there, too.
+//
+// Errors have names: errors.Is finds an Err.. value, and errors.As a *Refusal, *RequestError or *PanicError.
 //
 // Scenarios are JSON in Toxiproxy's populate form, in which a proxy may also have toxics; [] leaves the session as recorded, and unknown fields are
 // ignored. Scenario makes them of a Proxy and a Toxic:

@@ -2,18 +2,16 @@
 
 package toxicap
 
-import "errors"
-
-// The library is one for Linux on x86-64.
-var errElsewhere = errors.New("toxicap: Rehearse and Reports need Linux on x86-64 and a build with cgo (CGO_ENABLED=1, and a C compiler): " +
-	"elsewhere read outputs that were stored there")
-
-// Rehearse gives an error here: it needs the library, which is one for Linux on x86-64, and cgo.
+// Rehearse gives ErrNoLibrary here: it needs the library, which is one for Linux on x86-64, and cgo.
 func Rehearse(capture []byte, scenarios [][]byte, hosts []byte, seed uint64) ([]Output, error) {
-	return nil, errElsewhere
+	return nil, ErrNoLibrary
 }
 
-// Reports gives an error here, as Rehearse.
+// Reports gives ErrNoLibrary here, as Rehearse.
 func Reports(capture []byte, scenarios [][]byte, hosts []byte, seed uint64) ([]byte, error) {
-	return nil, errElsewhere
+	return nil, ErrNoLibrary
+}
+
+func effectNumbers(capture []byte, scenarios [][]byte, hosts []byte, seed uint64) ([]uint64, error) {
+	return nil, ErrNoLibrary
 }

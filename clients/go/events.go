@@ -2,9 +2,14 @@ package toxicap
 
 import (
 	"encoding/binary"
+	"errors"
 	"fmt"
+	"net/netip"
 	"time"
 )
+
+// ErrNotOutput is the error for a capture that toxicap did not write, such as a recording.
+var ErrNotOutput = errors.New("no output capture of toxicap")
 
 // An Event is what comes at an instant in one direction of a connection.
 type Event struct {
@@ -18,6 +23,12 @@ type Event struct {
 type Line struct {
 	Chunks []Event
 	End    *Event
+}
+
+// A Delivery is what a connection delivered: up what the client sent, down what the server sent.
+type Delivery struct {
+	Client, Server string // such as "10.77.0.1:43022"
+	Up, Down       Line
 }
 
 const (
@@ -66,14 +77,24 @@ type waiting map[awaited][]side
 // an output that was cut or put in another order) is refused: the error tells why, and the number of the record, from 0. Checksums are not looked
 // at. Connections of the same ports, of which one begins before another ends, may be taken for one another if all their numbers are equal.
 func Events(capture []byte) ([][]Event, error) {
+	connections, err := connectionsOf(capture)
+	events := make([][]Event, len(connections))
+	for number, c := range connections {
+		events[number] = c.events
+	}
+	return events, err
+}
+
+// connectionsOf reads the connections of an output capture.
+func connectionsOf(capture []byte) (connections []*connection, err error) {
 	found, err := records(capture)
-	connections, sides := []*connection{}, waiting{}
+	sides := waiting{}
 	for number := 0; err == nil && number < len(found); {
 		r, length := found[number], 1
 		if r.flags == syn && len(r.payload) == 0 {
 			var begun *connection
 			if begun, length = opening(found[number:]); begun == nil {
-				return nil, refusal(number, "no opening follows its SYN")
+				return nil, notOutput(number, "no opening follows its SYN")
 			}
 			connections = append(connections, begun)
 			sides.add(side{begun, 0})
@@ -83,48 +104,54 @@ func Events(capture []byte) ([][]Event, error) {
 		}
 		number += length
 	}
-	events := [][]Event{}
 	for _, c := range connections {
 		if err == nil && len(c.begun[0])+len(c.begun[1]) > 0 {
-			err = refusal(len(found), "the end is missing")
+			err = notOutput(len(found), "the end is missing")
 		}
-		events = append(events, c.events)
 	}
 	if err != nil {
 		return nil, err
 	}
-	return events, nil
+	return connections, nil
 }
 
-// Delivered gives the same as two lines for each connection, up and down.
-func Delivered(capture []byte) ([][2]Line, error) {
-	connections, err := Events(capture)
-	lines := make([][2]Line, len(connections))
-	for number, events := range connections {
-		for place, event := range events {
-			line := &lines[number][0]
+// Delivered gives the same by direction.
+func Delivered(capture []byte) ([]Delivery, error) {
+	connections, err := connectionsOf(capture)
+	deliveries := make([]Delivery, len(connections))
+	for number, c := range connections {
+		d := &deliveries[number]
+		d.Client, d.Server = addressOf(c.pairs[0][1]), addressOf(c.pairs[0][2])
+		for place, event := range c.events {
+			line := &d.Up
 			if event.Direction == "down" {
-				line = &lines[number][1]
+				line = &d.Down
 			}
 			if event.End == "" {
 				line.Chunks = append(line.Chunks, event)
 			} else {
-				line.End = &events[place]
+				line.End = &c.events[place]
 			}
 		}
 	}
-	return lines, err
+	return deliveries, err
 }
 
-func refusal(number int, why string) error {
-	return fmt.Errorf("no output capture of toxicap: record %d: %s", number, why)
+// addressOf gives the text of four bytes of an address and two of a port.
+func addressOf(bytes string) string {
+	addr := netip.AddrFrom4([4]byte{bytes[0], bytes[1], bytes[2], bytes[3]})
+	return netip.AddrPortFrom(addr, uint16(bytes[4])<<8|uint16(bytes[5])).String()
+}
+
+func notOutput(number int, why string) error {
+	return fmt.Errorf("%w: record %d: %s", ErrNotOutput, number, why)
 }
 
 // records gives the records of an output capture, each checked alone.
 func records(capture []byte) ([]record, error) {
 	tick := map[string]uint64{"\xd4\xc3\xb2\xa1": 1000, "\x4d\x3c\xb2\xa1": 1}
 	if len(capture) < 24 || tick[string(capture[:4])] == 0 || string(capture[4:24]) != fileHeader {
-		return nil, fmt.Errorf("no output capture of toxicap: it has another file header")
+		return nil, fmt.Errorf("%w: it has another file header", ErrNotOutput)
 	}
 	found, little, one := []record{}, binary.LittleEndian, tick[string(capture[:4])]
 	for place := 24; place < len(capture); {
@@ -144,7 +171,7 @@ func records(capture []byte) ([]record, error) {
 			}
 		}
 		if why != "" {
-			return nil, refusal(len(found), why)
+			return nil, notOutput(len(found), why)
 		}
 		found, place = append(found, r), place+16+len(frame)
 	}
@@ -183,14 +210,15 @@ func opening(found []record) (*connection, int) {
 		return r.time == begin.time && r.pair == pair && r.seq == seq && r.ack == acked && r.flags == flags && len(r.payload) == 0
 	}
 	back := [3]string{begin.pair[0], begin.pair[2], begin.pair[1]}
+	pairs := [2][3]string{begin.pair, back}
 	if is(1, back, 0, begin.seq+1, rst|ack) {
-		return &connection{ended: [2]bool{true, true}, events: []Event{{0, "up", nil, "refused"}, {0, "down", nil, "refused"}}}, 2
+		return &connection{pairs: pairs, ended: [2]bool{true, true}, events: []Event{{0, "up", nil, "refused"}, {0, "down", nil, "refused"}}}, 2
 	}
 	if len(found) < 3 || !is(1, back, found[1].seq, begin.seq+1, syn|ack) || !is(2, begin.pair, begin.seq+1, found[1].seq+1, ack) {
 		return nil, 0
 	}
 	next := [2]uint32{begin.seq + 1, found[1].seq + 1}
-	return &connection{opened: begin.time, pairs: [2][3]string{begin.pair, back}, next: next, last: begin.time, before: next}, 3
+	return &connection{opened: begin.time, pairs: pairs, next: next, last: begin.time, before: next}, 3
 }
 
 // add adds a side, unless it has ended.
@@ -211,14 +239,14 @@ func (sides waiting) goOn(number int, r record) error {
 		place--
 	}
 	if place < 0 {
-		return refusal(number, "0 connections go on with it")
+		return notOutput(number, "0 connections go on with it")
 	}
 	found := all[place]
 	if sides[what] = append(all[:place], all[place+1:]...); len(all) == 1 {
 		delete(sides, what)
 	}
 	if !found.of.take(found.number, r) {
-		return refusal(number, "toxicap writes no such segment")
+		return notOutput(number, "toxicap writes no such segment")
 	}
 	sides.add(found)
 	return nil

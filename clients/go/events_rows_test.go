@@ -1,11 +1,15 @@
+//go:build cgo && linux && amd64
+
 package toxicap
 
 import (
 	"encoding/binary"
 	"fmt"
 	"os/exec"
+	"reflect"
 	"strings"
 	"testing"
+	"time"
 )
 
 // Two connections of the same ports whose servers begin with the same number: the first answer comes when both await one.
@@ -24,7 +28,7 @@ func TestSamePorts(t *testing.T) {
 	if err != nil {
 		t.Fatal(err)
 	}
-	late := Scenario(Proxy{Upstream: "10.0.0.2:80", Toxics: []Toxic{{Type: "latency", Latency: 100}}})
+	late := Scenario(Proxy{Upstream: "10.0.0.2:80", Toxics: []Toxic{{Type: "latency", Latency: 100 * time.Millisecond}}})
 	outputs, err := Rehearse(capture, [][]byte{late}, nil, 0)
 	if err != nil {
 		t.Fatal(err)
@@ -32,7 +36,7 @@ func TestSamePorts(t *testing.T) {
 	told := ""
 	connections, err := Delivered(outputs[0].Capture)
 	for number, lines := range connections {
-		for _, line := range lines {
+		for _, line := range []Line{lines.Up, lines.Down} {
 			for _, chunk := range line.Chunks {
 				told += fmt.Sprintf("%d %v %s %s\n", number, chunk.Time, chunk.Direction, chunk.Bytes)
 			}
@@ -40,6 +44,9 @@ func TestSamePorts(t *testing.T) {
 	}
 	if expected := "0 200µs up one\n0 100.3ms down ONE\n1 200µs up two\n1 100.3ms down TWO\n"; err != nil || told != expected {
 		t.Errorf("%v, %s", err, told)
+	}
+	if laid, err := Lines(capture, [][]byte{late}, nil, 0); err != nil || !reflect.DeepEqual(laid, [][]Delivery{connections}) {
+		t.Errorf("%v, %v", err, laid)
 	}
 }
 
@@ -81,7 +88,7 @@ func TestOtherCaptures(t *testing.T) {
 		{changed(3, 39, "\x11"), "record 3: its headers are another's"},
 		{changed(3, 63, "\x38"), "record 3: toxicap writes no such segment"},
 	} {
-		if _, err := Events([]byte(row.capture)); strings.TrimPrefix(fmt.Sprint(err), "no output capture of toxicap: ") != row.why {
+		if _, err := Events([]byte(row.capture)); strings.TrimPrefix(fmt.Sprint(err), ErrNotOutput.Error()+": ") != row.why {
 			t.Errorf("%v in place of %s", err, row.why)
 		}
 	}

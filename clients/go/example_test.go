@@ -1,7 +1,10 @@
+//go:build cgo && linux && amd64
+
 package toxicap_test
 
 import (
 	"bufio"
+	"context"
 	"encoding/binary"
 	"errors"
 	"fmt"
@@ -11,6 +14,7 @@ import (
 	"strings"
 	"sync"
 	"testing"
+	"time"
 
 	"example.org/toxicap"
 )
@@ -47,7 +51,7 @@ func Example() {
 	fmt.Println(down.Delivered, "of", down.Recorded, "bytes of the answer came, then", down.End)
 	named := toxicap.Scenario(toxicap.Proxy{Name: "db", Upstream: "redis:6379"})
 	_, err = toxicap.Reports(sample("shop.pcap"), [][]byte{named}, nil, 7)
-	fmt.Println(errors.Is(err, toxicap.UnknownHost))
+	fmt.Println(errors.Is(err, toxicap.ErrUnknownHost))
 	fmt.Println(err)
 	// Output:
 	// 200 of 216 bytes of the answer came, then close
@@ -58,7 +62,7 @@ func Example() {
 // What a client reads: as recorded, a first read gives all headers of the answer, and in slices a part of them. So a client that takes one read for
 // the headers passes with the one and fails with the other; net/http reads on.
 func ExampleNewConn() {
-	slices := toxicap.Scenario(toxicap.Proxy{Upstream: web, Toxics: []toxicap.Toxic{{Type: "slicer", AverageSize: 50, Delay: 1000}}})
+	slices := toxicap.Scenario(toxicap.Proxy{Upstream: web, Toxics: []toxicap.Toxic{{Type: "slicer", AverageSize: 50, Delay: time.Millisecond}}})
 	for _, output := range outputs([]byte("[]"), slices) {
 		connections, err := toxicap.Delivered(output.Capture)
 		if err != nil {
@@ -80,6 +84,80 @@ func ExampleNewConn() {
 	// Output:
 	// one read: 186 bytes; net/http: "Hello from the sample server.\n", <nil>, after 3.653ms
 	// one read: 50 bytes; net/http: "Hello from the sample server.\n", <nil>, after 7.61ms
+}
+
+// An answer that comes after three seconds meets a client that waits for two, and the test waits for neither.
+func ExampleDialer() {
+	late := toxicap.Scenario(toxicap.Proxy{Upstream: web, Toxics: []toxicap.Toxic{{Type: "latency", Latency: 3 * time.Second}}})
+	both := outputs(late, []byte("[]"))
+	dialer, err := toxicap.NewDialer(both[0].Capture, both[1].Capture)
+	if err != nil {
+		panic(err)
+	}
+	client := http.Client{Timeout: 2 * time.Second, Transport: dialer.Transport()}
+	_, err = client.Get("http://web.example/hello.txt")
+	fmt.Println(os.IsTimeout(err), "at", dialer.Conns()[0].Now().Round(2*time.Second))
+	fmt.Println(dialer.Close())
+	// Output:
+	// true at 2s
+	// <nil>
+}
+
+// An answer that is cut after 200 bytes, served to a client of real sockets; Close has what the client did wrong, if anything.
+func ExamplePlayer() {
+	both := outputs(limit, []byte("[]"))
+	player, err := toxicap.NewPlayer(both[0].Capture, both[1].Capture)
+	if err != nil {
+		panic(err)
+	}
+	go player.Serve(context.Background())
+	answer, err := http.Get(fmt.Sprintf("http://127.0.0.1:%d/hello.txt", player.Port))
+	if err != nil {
+		panic(err)
+	}
+	body, err := io.ReadAll(answer.Body)
+	answer.Body.Close()
+	fmt.Println(len(body), errors.Is(err, io.ErrUnexpectedEOF), player.Close())
+	// Output:
+	// 14 true <nil>
+}
+
+// A client that asks Redis three times waits for each answer, so a second of latency is three seconds of the session: at its recorded times all three
+// requests are sent in the first milliseconds.
+func ExampleClosedLoop() {
+	scenario := toxicap.Scenario(toxicap.Proxy{Upstream: "10.77.0.3:6379", Toxics: []toxicap.Toxic{{Type: "latency", Latency: time.Second}}})
+	loop, err := toxicap.ClosedLoop(context.Background(), sample("shop.pcap"), scenario, nil, 0)
+	if err != nil {
+		panic(err)
+	}
+	open, err := toxicap.Rehearse(sample("shop.pcap"), [][]byte{scenario}, nil, 0)
+	if err != nil {
+		panic(err)
+	}
+	for _, output := range []toxicap.Output{open[0], loop.Output} {
+		connections, err := toxicap.Delivered(output.Capture)
+		if err != nil {
+			panic(err)
+		}
+		fmt.Println(connections[0].Down.End.Time.Round(time.Second))
+	}
+	// Output:
+	// 1s
+	// 3s
+}
+
+// The smallest scenario under which an answer is cut, and its least seed; a toxic without effect on that is left out.
+func ExampleShrink() {
+	scenario := toxicap.Scenario(toxicap.Proxy{Upstream: web, Toxics: []toxicap.Toxic{
+		{Type: "latency", Latency: time.Second, Jitter: time.Second}, {Type: "limit_data", Bytes: 50, Toxicity: 0.2}}})
+	isCut := func(outputs []toxicap.Output) bool {
+		report, err := toxicap.ParseReport(outputs[0].Report)
+		return err != nil || report.Connections[0].Down.End == "close"
+	}
+	found, err := toxicap.Shrink(context.Background(), sample("http-get.pcap"), scenario, nil, isCut, toxicap.Seeds{Below: 100, Workers: 4})
+	fmt.Println(found, err)
+	// Output:
+	// seed 0 of [{"name":"10.77.0.2:80","toxics":[{"attributes":{"bytes":0},"type":"limit_data"}],"upstream":"10.77.0.2:80"}] <nil>
 }
 
 // Why a scenario has no effect.
@@ -106,7 +184,7 @@ func FuzzScenario(f *testing.F) {
 			if err != nil {
 				t.Fatal(err)
 			}
-			for _, chunk := range connections[0][1].Chunks {
+			for _, chunk := range connections[0].Down.Chunks {
 				answers[number] += string(chunk.Bytes)
 			}
 		}
@@ -135,7 +213,7 @@ func TestReports(t *testing.T) {
 			t.Errorf("%v, %s", err, reports)
 		}
 	}
-	if _, err := toxicap.Rehearse(nil, scenarios, nil, 0); !errors.Is(err, toxicap.ShortHeader) {
+	if _, err := toxicap.Rehearse(nil, scenarios, nil, 0); !errors.Is(err, toxicap.ErrShortHeader) {
 		t.Error(err)
 	}
 	if outputs, err := toxicap.Rehearse(capture, nil, nil, 0); err != nil || len(outputs) != 0 {

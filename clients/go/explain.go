@@ -9,25 +9,24 @@ import (
 
 // Explain gives what keeps scenarios from having an effect on a capture: unknown fields, proxies that no connection meets, toxics without effect on
 // those that do, with the reasons, and why a capture has no connection. Each line begins with its place. If nothing is wrong there is none. Arguments
-// and errors are those of Rehearse, which is called once for the scenarios, once without their toxics, and some times for each toxic of a proxy.
+// and errors are those of Rehearse.
 func Explain(capture []byte, scenarios [][]byte, hosts []byte, seed uint64) (lines []string, err error) {
-	rehearse := func(scenarios [][]byte) ([]Output, error) { return Rehearse(capture, scenarios, hosts, seed) }
-	outputs, err := rehearse(scenarios)
+	effects, err := Effects(capture, scenarios, hosts, seed)
 	if err != nil {
 		return nil, err
 	}
-	runs := newRuns(scenarios, outputs, rehearse)
-	for number, output := range outputs {
-		report, err := ParseReport(output.Report)
-		if err != nil {
-			return nil, err
-		}
+	text, err := Reports(capture, scenarios, hosts, seed)
+	if err != nil {
+		return nil, err
+	}
+	reports, err := ParseReports(text)
+	for number, report := range reports {
 		if number == 0 {
 			lines = withoutConnection(report)
 		}
-		lines = append(append(lines, warnings(scenarios[number], hosts, report)...), runs.withoutEffect(number)...)
+		lines = append(append(lines, warnings(scenarios[number], hosts, report)...), idleToxics(scenarios[number], effects[number], report)...)
 	}
-	return lines, runs.err
+	return lines, err
 }
 
 // Warnings gives the lines of Explain of one output, except those of toxics. Of an output that was made by hand it only tells why there is no
@@ -90,7 +89,7 @@ func byCount(counts map[string]int) []string {
 	return names
 }
 
-// warnings tells of unknown fields of a scenario, and of proxies that no connection meets, unless there is no connection.
+// warnings tells of unknown fields of a scenario, and of proxies that no connection meets.
 func warnings(scenario, hosts []byte, report Report) (lines []string) {
 	place := fmt.Sprintf("scenario %d proxy ", report.Scenario)
 	proxies, _ := parsed(scenario).([]any)
@@ -103,15 +102,15 @@ func warnings(scenario, hosts []byte, report Report) (lines []string) {
 		servers[connection.Server]++
 	}
 	for number, proxy := range proxies {
-		if !met[number] && len(servers) > 0 {
+		if why := unmet(proxies[:number], proxy, hosts, servers); why != "" && !met[number] {
 			lines = append(lines, fmt.Sprintf("%s%d %s (%s): no connection meets it; %s", place, number, quoted(textAt(proxy, "name")),
-				textAt(proxy, "upstream"), unmet(proxies[:number], proxy, hosts, servers)))
+				textAt(proxy, "upstream"), why))
 		}
 	}
 	return lines
 }
 
-// unmet tells why a proxy is not met: an earlier one is in its place, or nobody connects to its server.
+// unmet tells why a proxy is not met: an earlier one is in its place, or nobody connects to its server. Without a connection only the first counts.
 func unmet(earlier []any, proxy any, hosts []byte, servers map[string]int) string {
 	for number, other := range earlier {
 		if serverOf(other, hosts) == serverOf(proxy, hosts) {
@@ -119,6 +118,9 @@ func unmet(earlier []any, proxy any, hosts []byte, servers map[string]int) strin
 		}
 	}
 	told := byCount(servers)
+	if len(told) == 0 {
+		return ""
+	}
 	if len(told) > 5 {
 		told = append(told[:5], "..")
 	}

@@ -1,5 +1,7 @@
 package toxicap
 
+import "time"
+
 // FuzzScenario makes a scenario of any bytes, such as those of a fuzz test, that Rehearse takes: a proxy before each of these servers (HOST:PORT, at
 // most 64), with up to four toxics. Equal bytes give equal scenarios, and no bytes proxies without toxics. Delays go up to two seconds, timeouts to
 // 65, rates from 1 to 2,000 KB a second, slices to 4,096 bytes, limits to 65,535 bytes; small numbers come as often as large ones.
@@ -43,20 +45,20 @@ func (source *fuzzBytes) toxic() Toxic {
 	}
 	switch toxic.Type {
 	case "latency":
-		toxic.Latency = source.number(2000)
-		toxic.Jitter = source.number(toxic.Latency)
+		latency := source.number(2000)
+		toxic.Latency, toxic.Jitter = time.Duration(latency)*time.Millisecond, time.Duration(source.number(latency))*time.Millisecond
 	case "bandwidth":
 		toxic.Rate = 1 + source.number(1999)
 	case "slow_close":
-		toxic.Delay = source.number(2000)
+		toxic.Delay = time.Duration(source.number(2000)) * time.Millisecond
 	case "slicer":
 		toxic.AverageSize = 1 + source.number(4095)
 		toxic.SizeVariation = source.number(toxic.AverageSize - 1)
-		toxic.Delay = source.number(20000)
+		toxic.Delay = time.Duration(source.number(20000)) * time.Microsecond
 	case "limit_data":
 		toxic.Bytes = source.number(65535)
 	default:
-		toxic.Timeout = source.number(65535)
+		toxic.Timeout = time.Duration(source.number(65535)) * time.Millisecond
 	}
 	return toxic
 }

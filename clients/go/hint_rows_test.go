@@ -1,3 +1,5 @@
+//go:build cgo && linux && amd64
+
 package toxicap
 
 // Refusals of Rehearse against tests/hints/rows, which has what the program says.
@@ -53,7 +55,7 @@ func TestHints(t *testing.T) {
 
 func TestKinds(t *testing.T) {
 	_, err := Reports(readFile(t, "../../samples/shop.pcap"), [][]byte{[]byte(`[{"name": "web", "upstream": "redis:80"}]`)}, nil, 0)
-	if !errors.Is(err, UnknownHost) || errors.Is(err, BadUpstream) || UnknownHost.Error() != "refused 15 UnknownHost" {
+	if !errors.Is(err, ErrUnknownHost) || errors.Is(err, ErrBadUpstream) || ErrUnknownHost.Error() != "refused 15 UnknownHost" {
 		t.Error(err)
 	}
 }

@@ -1,3 +1,5 @@
+//go:build cgo && linux && amd64
+
 package toxicap
 
 // Searches that find the planted bug of a parser.
@@ -10,6 +12,7 @@ import (
 	"os"
 	"reflect"
 	"strconv"
+	"time"
 )
 
 var hosts = Hosts(map[string]string{"redis": "10.77.0.3"})
@@ -17,9 +20,9 @@ var hosts = Hosts(map[string]string{"redis": "10.77.0.3"})
 var line = Scenario(
 	Proxy{Name: "web", Upstream: "10.77.0.2:80", Toxics: []Toxic{{Type: "bandwidth", Rate: 20}}},
 	Proxy{Name: "redis", Upstream: "redis:6379", Toxics: []Toxic{
-		{Type: "latency", Latency: 150, Jitter: 50},
+		{Type: "latency", Latency: 150 * time.Millisecond, Jitter: 50 * time.Millisecond},
 		{Type: "bandwidth", Rate: 20},
-		{Type: "slicer", Toxicity: 0.5, AverageSize: 40, SizeVariation: 20, Delay: 3000}}})
+		{Type: "slicer", Toxicity: 0.5, AverageSize: 40, SizeVariation: 20, Delay: 3 * time.Millisecond}}})
 
 // replies makes a parser of Redis's replies: lines, and texts after a line with their length.
 func replies() func([]byte) ([]string, error) {
@@ -49,7 +52,7 @@ func replies() func([]byte) ([]string, error) {
 
 // received gives the chunks that the client of connection 2 gets, which asks for a basket of 3,000 bytes.
 func received(outputs []Output) (chunks [][]byte) {
-	for _, chunk := range must(Delivered(outputs[0].Capture))[2][1].Chunks {
+	for _, chunk := range must(Delivered(outputs[0].Capture))[2].Down.Chunks {
 		chunks = append(chunks, chunk.Bytes)
 	}
 	return chunks
@@ -74,13 +77,13 @@ func must[T any](value T, err error) T {
 // Finds the planted bug in three ways.
 func Example_planted() {
 	capture, ctx := must(os.ReadFile("../../samples/shop.pcap")), context.Background()
-	seed, found, err := LeastSeed(ctx, capture, [][]byte{line}, hosts, fails, 1000)
-	if !found {
+	found, err := LeastSeed(ctx, capture, [][]byte{line}, hosts, fails, Seeds{Below: 1000, Workers: 4})
+	if found == nil {
 		log.Fatal("no seed below 1000 finds a bug ", err)
 	}
-	fmt.Println("least seed", seed)
-	scenario, seed, err := Shrink(ctx, capture, line, hosts, fails, seed+1)
-	fmt.Println("seed", seed, "of", string(scenario), err)
+	fmt.Println("least", found)
+	smallest, err := Shrink(ctx, capture, line, hosts, fails, Seeds{Below: found.Seed + 1})
+	fmt.Println(smallest, err)
 	recorded := must(Rehearse(capture, [][]byte{[]byte("[]")}, nil, 0))
 	size, messages, err := FeedPrefixes[string](replies, bytes.Join(received(recorded), nil))
 	fmt.Println("prefix of", size, "bytes, then", len(messages), "replies and", err)

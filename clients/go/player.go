@@ -11,6 +11,12 @@ import (
 	"time"
 )
 
+// ErrNoClient is the error of a player to which no client came.
+var ErrNoClient = errors.New("no client came")
+
+// mostMore is how many bytes a client may send beyond those of the recorded one.
+const mostMore = 16 << 20
+
 // A Player serves the server's side of connections of an output capture to real clients on 127.0.0.1, chunk by chunk, and ends each as the capture
 // does: by a FIN, by a reset, or not at all. Each client that comes gets the next connection; after the last one others are refused, and so is each
 // when the proxy was disabled.
@@ -21,8 +27,8 @@ import (
 // early. A client that closes before that gets no further answer.
 //
 // For Limit in all the player waits for clients: to come, to send enough, to take bytes, to close after the last step. It does not run while an
-// answer waits for its time. When it has run out the player ends, and the error tells what was missing: so a client that hangs is found, if Limit is
-// below its own timeout.
+// answer waits for its time. When it has run out the player ends, and the error, an ErrLimit, tells what was missing: so a client that hangs is found,
+// if Limit is below its own timeout. A client that sends 16 MiB more than the recorded one ends the player too.
 //
 // Each chunk is sent at once (TCP_NODELAY), and chunks that are due 2 ms or more apart stay 1 ms apart when the machine is late. The kernel still joins
 // chunks that the client is late to read, and gives a chunk that is longer than its room in pieces. A client that reads late may miss bytes before a
@@ -33,7 +39,7 @@ type Player struct {
 	NoPauses     bool
 	Limit        time.Duration
 	Gap          time.Duration // from the end of a chunk to the next one, at the least
-	SameRequests bool          // whether a client that sends other bytes than the recorded one ends the player, with an error
+	SameRequests bool          // whether a client that sends other bytes than the recorded one ends the player, with a *RequestError
 
 	parts    []part           // what clients get, in order
 	listener *net.TCPListener // nil if clients are refused
@@ -84,19 +90,19 @@ func partsOf(output, untouched []byte, connections []int) (parts []part, refused
 	if err != nil {
 		return nil, false, err
 	}
-	numbers, err := chosen(connections, len(here))
+	numbers, err := chosen(connections, here)
 	if err != nil {
 		return nil, false, err
 	}
 	taken, without := -1, -1
 	for _, number := range numbers {
-		steps := stepsOf(here[number][1], there[number])
+		steps := stepsOf(here[number].Down, there[number])
 		if is := len(steps) == 1 && steps[0].End == "refused"; is && without < 0 {
 			without = number
 		} else if !is && taken < 0 {
 			taken = number
 		}
-		parts = append(parts, part{number, steps, whole(there[number][0])})
+		parts = append(parts, part{number, steps, whole(there[number].Up)})
 	}
 	if taken >= 0 && without >= 0 {
 		return nil, false, fmt.Errorf("connection %d is refused and connection %d is not: one port cannot do both, name the connections of one server",
@@ -106,33 +112,46 @@ func partsOf(output, untouched []byte, connections []int) (parts []part, refused
 }
 
 // chosen gives the numbers of connections, or of all.
-func chosen(numbers []int, count int) ([]int, error) {
+func chosen(numbers []int, all []Delivery) ([]int, error) {
 	if numbers == nil {
-		for number := 0; number < count; number++ {
+		for number := range all {
 			numbers = append(numbers, number)
 		}
 	}
 	for _, number := range numbers {
-		if number < 0 || number >= count {
-			return nil, noConnection(number, count)
+		if number < 0 || number >= len(all) {
+			return nil, noConnection(number, all)
 		}
 	}
 	if len(numbers) == 0 {
-		return nil, errors.New("there is no connection")
+		return nil, ErrNoConnection
 	}
 	return numbers, nil
 }
 
-// Serve serves the clients, each to its end, and returns when the last one is done, when the limit has run out, or at Close; its error is that of
-// Close. If clients are refused it returns at Close or after Limit. It can be called once.
-func (p *Player) Serve() error {
+// Serve serves the clients, each to its end, and returns when the last one is done, when the limit has run out, at Close, or at the end of the context;
+// its error is that of Close, or the context's. If clients are refused it returns at Close or after Limit. It can be called once.
+func (p *Player) Serve(ctx context.Context) error {
 	p.mutex.Lock()
 	again := p.called
 	p.called = true
 	p.mutex.Unlock()
-	if again {
+	switch {
+	case p.life == nil:
+		return ErrNoConnection
+	case again:
 		return errors.New("player: Serve is called for the second time")
 	}
+	done := make(chan struct{})
+	defer close(done)
+	go func() {
+		select {
+		case <-ctx.Done():
+			p.fail(ctx.Err())
+			p.stop()
+		case <-done:
+		}
+	}()
 	p.serving.Do(p.run)
 	return p.result()
 }
@@ -148,7 +167,7 @@ func (p *Player) run() {
 	ranOut := p.patience.end()
 	p.stop()
 	if missing := p.missing(); ranOut && missing != "" {
-		p.fail(fmt.Sprintf("%s (limit %v)", missing, p.Limit))
+		p.fail(fmt.Errorf("%s (%w %v)", missing, ErrLimit, p.Limit))
 	}
 }
 
@@ -161,7 +180,7 @@ func (p *Player) serve() {
 		socket, err := p.accept()
 		if err != nil {
 			if !os.IsTimeout(err) && p.life.Err() == nil {
-				p.fail(err.Error())
+				p.fail(err)
 			}
 			return
 		}
@@ -187,6 +206,9 @@ func (p *Player) accept() (socket *net.TCPConn, err error) {
 // Close ends all connections, wherever they are, waits for Serve, and gives its error: what was missing when the limit had run out, other requests
 // than the recorded ones, or that no client came. What clients had sent before counts. Each further call gives the same.
 func (p *Player) Close() error {
+	if p.life == nil {
+		return ErrNoConnection
+	}
 	p.stop()
 	if p.held != nil {
 		p.held.Close()
@@ -226,11 +248,11 @@ func (p *Player) stop() {
 }
 
 // fail keeps what ended the player, if nothing did before.
-func (p *Player) fail(fault string) {
+func (p *Player) fail(fault error) {
 	p.mutex.Lock()
 	defer p.mutex.Unlock()
 	if p.fault == nil {
-		p.fault = fmt.Errorf("player: port %d: %s", p.Port, fault)
+		p.fault = fmt.Errorf("player: port %d: %w", p.Port, fault)
 	}
 }
 
@@ -238,7 +260,7 @@ func (p *Player) result() error {
 	p.mutex.Lock()
 	defer p.mutex.Unlock()
 	if p.fault == nil && p.listener != nil && len(p.clients) == 0 {
-		return fmt.Errorf("player: port %d: no client came", p.Port)
+		return fmt.Errorf("player: port %d: %w", p.Port, ErrNoClient)
 	}
 	return p.fault
 }
@@ -255,7 +277,7 @@ func (p *Player) missing() (told string) {
 	case told != "" || len(p.clients) == len(p.parts):
 		return told
 	case len(p.clients) == 0:
-		return "no client came"
+		return ErrNoClient.Error()
 	}
 	return fmt.Sprintf("%d of %d clients came", len(p.clients), len(p.parts))
 }

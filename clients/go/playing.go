@@ -170,7 +170,7 @@ func (c *client) await(enough func() bool, missing func() string) {
 // receive reads what the client sends, until it closes or the player ends.
 func (c *client) receive() {
 	defer close(c.read)
-	room, same, looks := make([]byte, 65536), true, 0
+	room, looks := make([]byte, 65536), 0
 	for {
 		length, err := c.socket.Read(room)
 		if os.IsTimeout(err) && looks < lastLooks {
@@ -183,11 +183,12 @@ func (c *client) receive() {
 		if c.heard = append(c.heard, heard{time.Now(), len(c.received)}); err != nil && !os.IsTimeout(err) {
 			c.closed = time.Now()
 		}
-		other := same && c.player.SameRequests && !c.compare(len(c.received)-length)
+		fault := c.faultFrom(len(c.received) - length)
 		c.mutex.Unlock()
-		if other {
-			same = false
+		if fault != nil {
+			c.player.fail(fault)
 			c.player.stop()
+			return
 		}
 		select {
 		case c.news <- struct{}{}:
@@ -199,22 +200,13 @@ func (c *client) receive() {
 	}
 }
 
-// compare tells whether the client's bytes from a place on are those of the recorded one; else it is the player's fault.
-func (c *client) compare(place int) bool {
-	for ; place < len(c.received) && place < len(c.requests) && c.received[place] == c.requests[place]; place++ {
+// faultFrom tells what is wrong with what the client sent from a place on: other bytes than the recorded one, or far more.
+func (c *client) faultFrom(place int) error {
+	switch more := len(c.received) - len(c.requests); {
+	case c.player.SameRequests:
+		return otherRequest(c.number, place, c.received, c.requests)
+	case more > mostMore:
+		return fmt.Errorf("connection %d: the client sent %d bytes more than the recorded one", c.number, more)
 	}
-	if place < len(c.received) {
-		c.player.fail(fmt.Sprintf("connection %d: the client sent %q at byte %d, and the recorded one %q", c.number, few(c.received[place:]), place,
-			few(c.requests[place:])))
-		return false
-	}
-	return true
-}
-
-// few gives the first bytes of more.
-func few(bytes []byte) []byte {
-	if len(bytes) > 20 {
-		return bytes[:20]
-	}
-	return bytes
+	return nil
 }

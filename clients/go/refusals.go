@@ -1,9 +1,14 @@
 package toxicap
 
 import (
+	"errors"
 	"strconv"
 	"strings"
 )
+
+// ErrNoLibrary is the error of calls that rehearse where there is no library, so that a test can be skipped there.
+var ErrNoLibrary = errors.New("toxicap: Rehearse and Reports need Linux on x86-64 and a build with cgo (CGO_ENABLED=1, and a C compiler): " +
+	"elsewhere read outputs that were stored there")
 
 // An Output is what one scenario gives.
 type Output struct {
@@ -12,7 +17,7 @@ type Output struct {
 	scenario, hosts []byte // what Warnings looks at; nil if the output was made by hand
 }
 
-// A Kind is what was refused, by its number. errors.Is(err, UnknownHost) tells whether an error is such a refusal.
+// A Kind is what was refused, by its number. errors.Is(err, ErrUnknownHost) tells whether an error is such a refusal.
 type Kind int
 
 // Error gives number and name, such as "refused 15 UnknownHost".

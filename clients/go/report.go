@@ -1,11 +1,15 @@
 package toxicap
 
 import (
+	"errors"
 	"fmt"
 	"regexp"
 	"strconv"
 	"strings"
 )
+
+// ErrNotReport is the error for a text that is no report, or a torn one.
+var ErrNotReport = errors.New("no report of toxicap")
 
 // A Report is what a report says, in numbers.
 type Report struct {
@@ -43,17 +47,17 @@ func ParseReport(text []byte) (Report, error) {
 	lines := strings.Split(strings.TrimSuffix(string(text), "\n"), "\n")
 	for number, line := range lines {
 		if !report.take(number, line) {
-			return Report{}, fmt.Errorf("no report of toxicap: line %d is %q", number+1, line)
+			return Report{}, fmt.Errorf("%w: line %d is %q", ErrNotReport, number+1, line)
 		}
 	}
 	if len(lines) < 2 {
-		return Report{}, fmt.Errorf("no report of toxicap: it has %d lines, and has at least 2", len(lines))
+		return Report{}, fmt.Errorf("%w: it has %d lines, and has at least 2", ErrNotReport, len(lines))
 	}
 	if found, expected := len(report.Connections), strings.Fields(lines[1])[1]; expected != strconv.Itoa(found) {
-		return Report{}, fmt.Errorf("the report is torn: it has %d of %s connections", found, expected)
+		return Report{}, fmt.Errorf("%w: it is torn, with %d of %s connections", ErrNotReport, found, expected)
 	}
 	if !strings.HasSuffix(string(text), "\n") {
-		return Report{}, fmt.Errorf("the report is torn: its last line has no line feed")
+		return Report{}, fmt.Errorf("%w: it is torn, its last line has no line feed", ErrNotReport)
 	}
 	return report, nil
 }

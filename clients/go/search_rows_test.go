@@ -1,16 +1,22 @@
+//go:build cgo && linux && amd64
+
 package toxicap
 
 // Searches against rows that were worked out by hand (tests/search.json) and known parsers.
 
 import (
+	"bytes"
 	"context"
 	"encoding/json"
+	"errors"
 	"fmt"
 	"os"
 	"reflect"
 	"regexp"
+	"runtime"
 	"strconv"
 	"strings"
+	"sync"
 	"testing"
 )
 
@@ -59,76 +65,171 @@ func tryRow(t *testing.T, row row) {
 	for i, scenario := range row.Scenarios {
 		texts[i] = scenario
 	}
-	seed, found, err := LeastSeed(context.Background(), capture, texts, []byte(row.Hosts), finds, row.Below)
-	if err != nil || found != (row.Seed != nil) || found && seed != *row.Seed {
-		t.Error("least seed", seed, found, err)
-	}
-	if row.Smallest == nil {
-		return
-	}
-	text, seed, err := Shrink(context.Background(), capture, texts[0], []byte(row.Hosts), finds, row.Below)
-	var smallest any
-	if err != nil || json.Unmarshal(text, &smallest) != nil || !reflect.DeepEqual(smallest, row.Smallest) || seed != *row.Seed {
-		t.Error("smallest", seed, string(text), err)
+	for workers := 0; workers < 4; workers++ {
+		seeds := Seeds{Below: row.Below, Workers: workers}
+		found, err := LeastSeed(context.Background(), capture, texts, []byte(row.Hosts), finds, seeds)
+		if err != nil || (found != nil) != (row.Seed != nil) || found != nil && found.Seed != *row.Seed {
+			t.Error("least", found, err)
+		}
+		if row.Smallest == nil {
+			continue
+		}
+		found, err = Shrink(context.Background(), capture, texts[0], []byte(row.Hosts), finds, seeds)
+		var smallest any
+		if err != nil || json.Unmarshal(found.Scenario, &smallest) != nil || !reflect.DeepEqual(smallest, row.Smallest) || found.Seed != *row.Seed {
+			t.Error("smallest", found, err)
+		}
 	}
 }
 
 func TestWrongUses(t *testing.T) {
-	capture := readFile(t, "../../samples/http-get.pcap")
+	ctx, capture := context.Background(), readFile(t, "../../samples/http-get.pcap")
 	answer := func(answered bool) func([]Output) bool { return func([]Output) bool { return answered } }
-	_, _, noSeed := LeastSeed(context.Background(), capture, [][]byte{[]byte("[]")}, nil, answer(true), 0)
-	_, _, refused := LeastSeed(context.Background(), capture, [][]byte{[]byte("[]"), []byte("[")}, nil, answer(true), 1)
-	ended, end := context.WithCancel(context.Background())
-	end()
-	_, _, leastEnded := LeastSeed(ended, capture, [][]byte{[]byte("[]")}, nil, answer(false), 1<<40)
-	_, _, shrinkEnded := Shrink(ended, capture, []byte("[]"), nil, answer(true), 0)
-	_, _, shrinkRefused := Shrink(context.Background(), capture, []byte("["), nil, answer(true), 1)
-	_, _, passes := Shrink(context.Background(), capture, []byte("[]"), nil, answer(false), 3)
-	_, _, untouched := Shrink(context.Background(), capture, []byte("[]"), nil, answer(true), 3)
+	_, noSeed := LeastSeed(ctx, capture, [][]byte{[]byte("[]")}, nil, answer(true), Seeds{From: 7, Below: 7})
+	_, refused := LeastSeed(ctx, capture, [][]byte{[]byte("[]"), []byte("[")}, nil, answer(true), Seeds{Workers: 3})
+	_, shrinkRefused := Shrink(ctx, capture, []byte("["), nil, answer(true), Seeds{})
+	_, passes := Shrink(ctx, capture, []byte("[]"), nil, answer(false), Seeds{Below: 3})
+	_, untouched := Shrink(ctx, capture, []byte("[]"), nil, answer(true), Seeds{Below: 3})
 	for _, use := range []struct {
 		err      error
+		is       error
 		expected string
 	}{
-		{noSeed, "below is 0, so there is no seed to try"},
-		{leastEnded, "context canceled"},
-		{shrinkEnded, "context canceled"},
-		{refused, "refused 10 NotJson scenario 1: scenario 1 ends before its JSON does"},
-		{shrinkRefused, "refused 10 NotJson scenario 0: scenario 0 ends before its JSON does"},
-		{passes, "the scenario does not fail under these seeds: there is nothing to shrink"},
-		{untouched, "the scenario [], without toxics, fails too: there is nothing to shrink; make fails false for what was recorded"},
+		{noSeed, ErrNoSeeds, "there is no seed to try: Below is not above From"},
+		{refused, ErrNotJson, "refused 10 NotJson scenario 1: scenario 1 ends before its JSON does"},
+		{shrinkRefused, ErrNotJson, "refused 10 NotJson scenario 0: scenario 0 ends before its JSON does"},
+		{passes, ErrPasses, "the scenario does not fail under these seeds: there is nothing to shrink"},
+		{untouched, ErrFailsUntouched,
+			"the scenario [], without toxics, fails too: there is nothing to shrink; make fails false for what was recorded"},
 	} {
-		if use.err == nil || use.err.Error() != use.expected {
+		if !errors.Is(use.err, use.is) || use.err.Error() != use.expected {
 			t.Errorf("%v in place of %s", use.err, use.expected)
 		}
 	}
 }
 
-// A function that panics is true, Shrink tries seeds by itself, and leaves out what has no effect without a call of the function.
-func TestPanics(t *testing.T) {
+// Any number of workers tries each seed from the first one up to the least under which the function is true, and its seed is that of one worker.
+func TestWorkers(t *testing.T) {
+	capture, scenario := readFile(t, "../../samples/shop.pcap"), [][]byte{line}
+	outputs, err := Rehearse(capture, scenario, hosts, 40)
+	if err != nil {
+		t.Fatal(err)
+	}
+	for workers := 0; workers < 9; workers += 2 {
+		tried, told := sync.Map{}, []uint64{}
+		found, err := LeastSeed(context.Background(), capture, scenario, hosts, func(others []Output) bool {
+			tried.Store(string(others[0].Capture), true)
+			return bytes.Equal(others[0].Capture, outputs[0].Capture)
+		}, Seeds{From: 10, Below: 200, Workers: workers, Progress: func(count uint64) { told = append(told, count) }})
+		if err != nil || found == nil || found.Seed != 40 || found.Panic != nil {
+			t.Error(workers, found, err)
+		}
+		for number, count := range told {
+			if count != uint64(number) || len(told) < 31 || workers < 2 && len(told) > 31 {
+				t.Fatal(workers, told)
+			}
+		}
+		for seed := uint64(10); seed <= 40; seed++ {
+			outputs, err := Rehearse(capture, scenario, hosts, seed)
+			if _, is := tried.Load(string(outputs[0].Capture)); err != nil || !is {
+				t.Error(workers, "seed", seed, "was not tried", err)
+			}
+		}
+	}
+}
+
+// A context that ends gives what was found by then: the scenario that was shrunk so far, or nothing.
+func TestContexts(t *testing.T) {
 	capture := readFile(t, "../../samples/http-get.pcap")
+	scenario := Scenario(Proxy{Upstream: "10.77.0.2:80", Toxics: []Toxic{{Type: "limit_data", Bytes: 100}, {Type: "slicer", AverageSize: 9, Delay: 5000}}})
+	for calls := 0; calls < 30; calls++ {
+		ctx, end := context.WithCancel(context.Background())
+		count := 0
+		fails := func(outputs []Output) bool {
+			if count++; count == calls {
+				end()
+			}
+			return strings.Contains(string(outputs[0].Report), " close+")
+		}
+		if calls == 0 {
+			end()
+		}
+		found, err := Shrink(ctx, capture, scenario, nil, fails, Seeds{Below: 2})
+		end()
+		if (found == nil) != (calls == 0) || (err != nil) != errors.Is(err, context.Canceled) || calls < 9 && err == nil {
+			t.Fatal(calls, found, err)
+		}
+		if found != nil {
+			outputs, err := Rehearse(capture, [][]byte{found.Scenario}, nil, found.Seed)
+			if err != nil || !fails(outputs) {
+				t.Error(calls, found, err)
+			}
+		}
+	}
+	ctx, end := context.WithCancel(context.Background())
+	found, err := LeastSeed(ctx, capture, [][]byte{scenario}, nil, func([]Output) bool { end(); return false }, Seeds{Below: 1 << 40, Workers: 2})
+	if found != nil || err != context.Canceled {
+		t.Error(found, err)
+	}
+}
+
+// A function that panics is true, which is shown, and Shrink leaves out what has no effect without a call of the function.
+func TestPanics(t *testing.T) {
+	ctx, capture := context.Background(), readFile(t, "../../samples/http-get.pcap")
 	proxies := []Proxy{{Upstream: "10.77.0.2:80", Toxics: []Toxic{{Type: "limit_data", Toxicity: 0.2, Bytes: 50}}}}
 	for number := 1; number < 30; number++ {
 		proxies = append(proxies, Proxy{Upstream: fmt.Sprintf("10.77.0.9:%d", number), Toxics: []Toxic{{Type: "timeout"}}})
 	}
-	seed, found, err := LeastSeed(context.Background(), capture, [][]byte{Scenario(proxies...)}, nil, func([]Output) bool { panic("broken") }, 9)
-	if seed != 0 || !found || err != nil {
-		t.Error(seed, found, err)
+	found, err := LeastSeed(ctx, capture, [][]byte{Scenario(proxies...)}, nil, func([]Output) bool { panic("broken") }, Seeds{Below: 9})
+	if err != nil || found == nil || !strings.HasPrefix(found.String(), "seed 0: panic: broken\n") || !strings.Contains(found.String(), "TestPanics") {
+		t.Error(found, err)
 	}
 	answered, panicked := 0, 0
-	smallest, seed, err := Shrink(context.Background(), capture, Scenario(proxies...), nil, func(outputs []Output) bool {
+	found, err = Shrink(ctx, capture, Scenario(proxies...), nil, func(outputs []Output) bool {
 		if strings.Contains(string(outputs[0].Report), " down 216/216/0 ") {
 			answered++
 			return false
 		}
 		panicked++
 		panic("cut")
-	}, 0)
+	}, Seeds{})
 	expected := `[{"name":"10.77.0.2:80","toxics":[{"attributes":{"bytes":0},"type":"limit_data"}],"upstream":"10.77.0.2:80"}]`
-	if string(smallest) != expected || seed != 0 || err != nil {
-		t.Error(string(smallest), seed, err)
+	if err != nil || string(found.Scenario) != expected || found.Seed != 0 || found.Panic == nil {
+		t.Error(found, err)
 	}
-	if panicked > 10 { // none for the 29 proxies
+	if panicked > 11 { // none for the 29 proxies
 		t.Error(panicked, answered)
+	}
+}
+
+// A function that is broken by itself, or ends its goroutine, is no find: the search ends, unless runtime errors are asked for.
+func TestRuntimeErrors(t *testing.T) {
+	ctx, capture, scenarios := context.Background(), readFile(t, "../../samples/http-get.pcap"), [][]byte{[]byte("[]")}
+	index := func(outputs []Output) bool { return outputs[1].Capture == nil }
+	for name, search := range map[string]func(func([]Output) bool, Seeds) (*Found, error){
+		"LeastSeed": func(fails func([]Output) bool, seeds Seeds) (*Found, error) {
+			return LeastSeed(ctx, capture, scenarios, nil, fails, seeds)
+		},
+		"Shrink": func(fails func([]Output) bool, seeds Seeds) (*Found, error) {
+			return Shrink(ctx, capture, scenarios[0], nil, fails, seeds)
+		},
+	} {
+		for _, workers := range []int{0, 3} {
+			found, err := search(index, Seeds{Workers: workers})
+			var fault *PanicError
+			var broken runtime.Error
+			if found != nil || !errors.As(err, &fault) || !errors.As(err, &broken) || !strings.Contains(string(fault.Stack), "TestRuntimeErrors") {
+				t.Error(name, found, err)
+			}
+			found, err = search(func([]Output) bool { runtime.Goexit(); return true }, Seeds{Workers: workers})
+			if found != nil || !errors.As(err, &fault) || fault.Value != nil || !strings.Contains(err.Error(), "t.Fatal") {
+				t.Error(name, found, err)
+			}
+		}
+	}
+	found, err := LeastSeed(ctx, capture, scenarios, nil, index, Seeds{RuntimeErrors: true})
+	if err != nil || found == nil || found.Panic == nil {
+		t.Error(found, err)
 	}
 }
 

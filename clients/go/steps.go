@@ -9,8 +9,14 @@ import (
 	"time"
 )
 
-// What no toxic does: none makes a byte come earlier, or adds one.
-const swapped = "has more or earlier bytes in the first output: the output under the scenario has to come first, the untouched one second"
+// The errors of two outputs that are no pair. No toxic makes a byte come earlier, or adds one.
+var (
+	ErrOutputs = errors.New("the outputs are not of one capture")
+	ErrSwapped = errors.New("more or earlier bytes in the first output: the output under the scenario has to come first, the untouched one second")
+)
+
+// ErrNoConnection is the error for a number or an address of no connection.
+var ErrNoConnection = errors.New("there is no connection")
 
 // A Step is what a player does, and what it waits for.
 type Step struct {
@@ -30,13 +36,13 @@ func Steps(output, untouched []byte, connection int) ([]Step, error) {
 		return nil, err
 	}
 	if connection < 0 || connection >= len(here) {
-		return nil, noConnection(connection, len(here))
+		return nil, noConnection(connection, here)
 	}
-	return stepsOf(here[connection][1], there[connection]), nil
+	return stepsOf(here[connection].Down, there[connection]), nil
 }
 
 // both gives the lines of each connection of two outputs, of which the second is the untouched one.
-func both(output, untouched []byte) (here, there [][2]Line, err error) {
+func both(output, untouched []byte) (here, there []Delivery, err error) {
 	if here, err = Delivered(output); err != nil {
 		return nil, nil, fmt.Errorf("the first output: %w (the program or Rehearse makes one of a recording)", err)
 	}
@@ -44,28 +50,25 @@ func both(output, untouched []byte) (here, there [][2]Line, err error) {
 		return nil, nil, fmt.Errorf("the untouched output: %w (rehearse the recording under [], too)", err)
 	}
 	if len(here) != len(there) {
-		return nil, nil, fmt.Errorf("the outputs are not of one capture (connections: %d and %d)", len(here), len(there))
+		return nil, nil, fmt.Errorf("%w (connections: %d and %d)", ErrOutputs, len(here), len(there))
 	}
 	for number := range here {
-		for side := range here[number] {
-			ordered, err := inOrder(here[number][side], there[number][side])
-			if err != nil {
-				return nil, nil, err
-			}
-			if !ordered {
-				return nil, nil, fmt.Errorf("connection %d %s", number, swapped)
-			}
+		err := inOrder(here[number].Up, there[number].Up)
+		if err == nil {
+			err = inOrder(here[number].Down, there[number].Down)
+		}
+		if err == ErrSwapped {
+			err = fmt.Errorf("connection %d has %w", number, err)
+		}
+		if err != nil {
+			return nil, nil, err
 		}
 	}
 	return here, there, nil
 }
 
-func noConnection(number, count int) error {
-	return fmt.Errorf("there is no connection %d: there are %d, numbered from 0", number, count)
-}
-
 // stepsOf gives the steps of a connection, of which the server's line and the recorded lines are known.
-func stepsOf(down Line, there [2]Line) []Step {
+func stepsOf(down Line, there Delivery) []Step {
 	r, steps, place := recordingOf(there), []Step{}, 0
 	for _, chunk := range down.Chunks {
 		place += len(chunk.Bytes)
@@ -81,14 +84,14 @@ func stepsOf(down Line, there [2]Line) []Step {
 	return steps
 }
 
-// inOrder tells whether a line has no byte earlier than the recorded one, and none more; an error where its bytes are others.
-func inOrder(line, recorded Line) (bool, error) {
+// inOrder gives an error if a line has a byte earlier than the recorded one, or more, or others.
+func inOrder(line, recorded Line) error {
 	sent, all := whole(line), whole(recorded)
 	if !bytes.HasPrefix(all, sent) && !bytes.HasPrefix(sent, all) {
-		return false, errors.New("the outputs are not of one capture")
+		return ErrOutputs
 	}
 	if len(sent) > len(all) {
-		return false, nil
+		return ErrSwapped
 	}
 	place, known, next := 0, 0, 0
 	for _, chunk := range line.Chunks {
@@ -97,10 +100,15 @@ func inOrder(line, recorded Line) (bool, error) {
 			known += len(recorded.Chunks[next].Bytes)
 		}
 		if chunk.Time < recorded.Chunks[next-1].Time {
-			return false, nil
+			return ErrSwapped
 		}
 	}
-	return true, nil
+	return nil
+}
+
+// noConnection is the error for a number, which names the connections that there are.
+func noConnection(number int, all []Delivery) error {
+	return fmt.Errorf("%w %d: there are %s", ErrNoConnection, number, servers(all))
 }
 
 // whole gives the bytes of a line.
@@ -117,9 +125,9 @@ type recording struct {
 	ends  [2][]int
 }
 
-func recordingOf(lines [2]Line) recording {
-	r := recording{lines: lines}
-	for side, line := range lines {
+func recordingOf(there Delivery) recording {
+	r := recording{lines: [2]Line{there.Up, there.Down}}
+	for side, line := range r.lines {
 		end := 0
 		for _, chunk := range line.Chunks {
 			end += len(chunk.Bytes)

@@ -24,10 +24,10 @@ func captureDifference(expected, found []byte) string {
 	second, other := toxicap.Delivered(found)
 	if err == nil && other == nil {
 		for number := 0; number < len(first) && number < len(second); number++ {
-			for side, direction := range []string{"up", "down"} {
-				if told := lineDifference(first[number][side], second[number][side]); told != "" {
-					return fmt.Sprintf("in connection %d %s, %s", number, direction, told)
-				}
+			if told := lineDifference(first[number].Up, second[number].Up); told != "" {
+				return fmt.Sprintf("in connection %d up, %s", number, told)
+			} else if told := lineDifference(first[number].Down, second[number].Down); told != "" {
+				return fmt.Sprintf("in connection %d down, %s", number, told)
 			}
 		}
 		if len(first) != len(second) {

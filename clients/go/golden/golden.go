@@ -7,6 +7,7 @@ package golden
 
 import (
 	"bytes"
+	"context"
 	"errors"
 	"flag"
 	"fmt"
@@ -23,17 +24,89 @@ import (
 var update = flag.Bool("toxicap-update", false, "write golden files of toxicap that are missing or differ")
 
 // The absolute paths, without an ending, that were compared.
-var compared sync.Map
+var used sync.Map
 
-// Rehearse rehearses a capture under one scenario, compares what comes as Compare does, and gives it. A refusal ends the test.
-func Rehearse(t testing.TB, path string, capture, scenario, hosts []byte, seed uint64) toxicap.Output {
+// An Option changes how a capture is rehearsed.
+type Option int
+
+// Closed has client and server wait for one another, as toxicap.ClosedLoop does; else each request is sent at its recorded time.
+const Closed Option = 1
+
+// Rehearse rehearses a capture under one scenario, compares what comes as Compare does, and gives it. A refusal ends the test, and a toxic without effect
+// is logged. Where there is no library (toxicap.ErrNoLibrary) it gives the golden files.
+func Rehearse(t testing.TB, path string, capture, scenario, hosts []byte, seed uint64, options ...Option) toxicap.Output {
 	t.Helper()
-	outputs, err := toxicap.Rehearse(capture, [][]byte{scenario}, hosts, seed)
+	loop := rehearsed(t, capture, scenario, hosts, seed, options)
+	logIdle(t, loop, scenario, hosts, seed)
+	return compared(t, path, loop.Output)
+}
+
+// Dialer gives a Dialer of what Rehearse gives, for a client that is tested. The output under [] has golden files too, PATH.untouched.pcap and .txt. If
+// the path is "", as in a fuzz test, nothing is compared. The test fails at its end if the client sent other requests than the recorded one (see
+// toxicap.RequestError), or dialled no connection.
+func Dialer(t testing.TB, path string, capture, scenario, hosts []byte, seed uint64, options ...Option) *toxicap.Dialer {
+	t.Helper()
+	loop := rehearsed(t, capture, scenario, hosts, seed, options)
+	if path != "" {
+		logIdle(t, loop, scenario, hosts, seed)
+		loop.Output, loop.Untouched = compared(t, path, loop.Output), compared(t, path+".untouched", loop.Untouched)
+	} else if loop.Output.Capture == nil {
+		t.Skip(toxicap.ErrNoLibrary)
+	}
+	dialer, err := toxicap.NewDialer(loop.Output.Capture, loop.Untouched.Capture)
 	if err != nil {
 		t.Fatal(err)
 	}
-	Compare(t, path, outputs[0])
-	return outputs[0]
+	t.Cleanup(func() {
+		if err := dialer.Close(); err != nil {
+			t.Error(err)
+		}
+	})
+	return dialer
+}
+
+// rehearsed gives the outputs under a scenario and under []; none where there is no library.
+func rehearsed(t testing.TB, capture, scenario, hosts []byte, seed uint64, options []Option) (loop toxicap.Loop) {
+	t.Helper()
+	loop.Recording = capture
+	outputs, err := toxicap.Rehearse(capture, [][]byte{scenario, []byte("[]")}, hosts, seed)
+	if err == nil && len(options) > 0 && options[0] == Closed {
+		loop, err = toxicap.ClosedLoop(context.Background(), capture, scenario, hosts, seed)
+	} else if err == nil {
+		loop.Output, loop.Untouched = outputs[0], outputs[1]
+	}
+	if err != nil && !errors.Is(err, toxicap.ErrNoLibrary) {
+		t.Fatal(err)
+	}
+	return loop
+}
+
+// logIdle logs the toxics without effect.
+func logIdle(t testing.TB, loop toxicap.Loop, scenario, hosts []byte, seed uint64) {
+	t.Helper()
+	lines, _ := toxicap.Explain(loop.Recording, [][]byte{scenario}, hosts, seed)
+	faults := strings.Join(loop.Output.Warnings(), "\n")
+	for _, line := range lines {
+		if !strings.Contains(faults, line) {
+			t.Log(line)
+		}
+	}
+}
+
+// compared compares an output with golden files, or gives these where there is none.
+func compared(t testing.TB, path string, output toxicap.Output) toxicap.Output {
+	t.Helper()
+	if output.Capture != nil {
+		Compare(t, path, output)
+		return output
+	}
+	used.Store(absolute(path), true)
+	capture, err := os.ReadFile(path + ".pcap")
+	report, other := os.ReadFile(path + ".txt")
+	if err != nil || other != nil {
+		t.Fatalf("there are no golden files %s.pcap and .txt, and none can be made: %v", path, toxicap.ErrNoLibrary)
+	}
+	return toxicap.Output{Capture: capture, Report: report}
 }
 
 // Compare fails the test if an output's capture is not the file PATH.pcap, or its report not PATH.txt. A relative path counts from the test's
@@ -51,7 +124,7 @@ func Compare(t testing.TB, path string, output toxicap.Output) {
 // Same compares as Compare does, also if nothing happens in the output.
 func Same(t testing.TB, path string, output toxicap.Output) {
 	t.Helper()
-	compared.Store(absolute(path), true)
+	used.Store(absolute(path), true)
 	value := os.Getenv("TOXICAP_UPDATE")
 	writes, failed := *update || value != "" && value != "0", false
 	for _, file := range []struct {
@@ -112,8 +185,8 @@ func Stale(t testing.TB, folder string) {
 			path := strings.TrimSuffix(report, ".txt")
 			_, err := os.Stat(path + ".pcap")
 			text, _ := os.ReadFile(report)
-			_, isCompared := compared.Load(absolute(path))
-			if err == nil && !isCompared && bytes.HasPrefix(text, []byte("scenario ")) {
+			_, isUsed := used.Load(absolute(path))
+			if err == nil && !isUsed && bytes.HasPrefix(text, []byte("scenario ")) {
 				t.Errorf("the golden files %s.pcap and .txt are stale: no test compares with them", path)
 			}
 		}

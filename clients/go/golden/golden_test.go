@@ -1,12 +1,16 @@
+//go:build cgo && linux && amd64
+
 package golden_test
 
 import (
 	"encoding/binary"
 	"fmt"
+	"io"
 	"os"
 	"path/filepath"
 	"strings"
 	"testing"
+	"time"
 
 	"example.org/toxicap"
 	"example.org/toxicap/golden"
@@ -34,13 +38,19 @@ func check(t *testing.T, found, expected string) {
 	}
 }
 
-var slow = toxicap.Scenario(toxicap.Proxy{Upstream: "10.77.0.2:80", Toxics: []toxicap.Toxic{{Type: "slicer", AverageSize: 150, Delay: 1000}}})
-
-func TestGolden(t *testing.T) {
-	capture, err := os.ReadFile("../share/toxicap/samples/http-get.pcap")
+func sample(t *testing.T, name string) []byte {
+	t.Helper()
+	capture, err := os.ReadFile("../share/toxicap/samples/" + name + ".pcap")
 	if err != nil {
 		t.Fatal(err)
 	}
+	return capture
+}
+
+var slow = toxicap.Scenario(toxicap.Proxy{Upstream: "10.77.0.2:80", Toxics: []toxicap.Toxic{{Type: "slicer", AverageSize: 150, Delay: time.Millisecond}}})
+
+func TestGolden(t *testing.T) {
+	capture := sample(t, "http-get")
 	path := filepath.Join(t.TempDir(), "golden", "slow")
 	fake := &told{}
 	output := golden.Rehearse(fake, path, capture, slow, nil, 0)
@@ -103,12 +113,83 @@ func TestGolden(t *testing.T) {
 	check(t, stale(), "")
 }
 
+// end ends the test that is only told.
+func (t *told) end() {
+	for _, end := range t.ends {
+		end()
+	}
+}
+
+// A client over a Dialer, whose two outputs have golden files; what it does wrong fails the test at its end.
+func TestDialer(t *testing.T) {
+	capture := sample(t, "http-get")
+	path := filepath.Join(t.TempDir(), "slow")
+	t.Setenv("TOXICAP_UPDATE", "1")
+	for _, row := range []struct{ sent, fault string }{
+		{"", "no connection was dialled"}, {"GET", `the client reads after 3 bytes, and the recorded one sent " /hello.txt`},
+		{strings.Repeat("x", 82), ""},
+	} {
+		fake := &told{}
+		dialer := golden.Dialer(fake, path, capture, slow, nil, 0)
+		t.Setenv("TOXICAP_UPDATE", "")
+		if row.sent != "" {
+			c, err := dialer.Dial("tcp", "web:80")
+			if err != nil {
+				t.Fatal(err)
+			}
+			c.Write([]byte(row.sent))
+			if answer, err := io.ReadAll(c); (err == nil) != (row.fault == "") || err == nil && len(answer) != 216 {
+				t.Errorf("%q, %v", answer, err)
+			}
+		}
+		if fake.end(); !strings.Contains(fake.errors, row.fault) || row.fault == "" && fake.errors != "" {
+			t.Error(fake.errors)
+		}
+	}
+	for _, ending := range []string{".pcap", ".txt", ".untouched.pcap", ".untouched.txt"} {
+		if _, err := os.Stat(path + ending); err != nil {
+			t.Error(err)
+		}
+	}
+	fake := &told{}
+	golden.Dialer(fake, "", capture, slow, nil, 0)
+	check(t, fake.errors, "")
+}
+
+// In the closed loop three requests under a second of latency take three seconds; at their recorded times they take one. It is as strict.
+func TestClosed(t *testing.T) {
+	capture, path := sample(t, "shop"), filepath.Join(t.TempDir(), "late")
+	t.Setenv("TOXICAP_UPDATE", "1")
+	late := toxicap.Scenario(toxicap.Proxy{Upstream: "10.77.0.3:6379", Toxics: []toxicap.Toxic{{Type: "latency", Latency: time.Second}}})
+	for expected, options := range map[int64][]golden.Option{1: nil, 3: {golden.Closed}} {
+		report, err := toxicap.ParseReport(golden.Rehearse(t, path, capture, late, nil, 0, options...).Report)
+		if found := report.Connections[0].Down.At / 1000000; err != nil || found != expected {
+			t.Errorf("%d seconds, and expected are %d: %v", found, expected, err)
+		}
+	}
+	fake := &told{}
+	golden.Rehearse(fake, path, capture, []byte(`[{"name": "web", "upstream": "10.77.0.2:81"}]`), nil, 0, golden.Closed)
+	if !strings.Contains(fake.errors, "no connection meets it") {
+		t.Error(fake.errors)
+	}
+}
+
+// Toxics without effect are logged.
+func TestIdleToxics(t *testing.T) {
+	t.Setenv("TOXICAP_UPDATE", "1")
+	path := filepath.Join(t.TempDir(), "idle")
+	for text, toxic := range map[string]toxicap.Toxic{"its latency and jitter are 0": {Type: "latency"}, "is not passed": {Type: "limit_data", Bytes: 1000}} {
+		fake := &told{}
+		golden.Rehearse(fake, path, sample(t, "http-get"), toxicap.Scenario(toxicap.Proxy{Upstream: "10.77.0.2:80", Toxics: []toxicap.Toxic{toxic}}), nil, 0)
+		if fake.errors != "" || !strings.Contains(fake.logs, "effect on 0 of 1 connection") || !strings.Contains(fake.logs, text) {
+			t.Error(fake.errors, fake.logs)
+		}
+	}
+}
+
 // An output in which nothing happens is none for a golden file.
 func TestNothingHappened(t *testing.T) {
-	capture, err := os.ReadFile("../share/toxicap/samples/http-get.pcap")
-	if err != nil {
-		t.Fatal(err)
-	}
+	capture := sample(t, "http-get")
 	t.Setenv("TOXICAP_UPDATE", "1")
 	path := filepath.Join(t.TempDir(), "idle")
 	for text, scenario := range map[string][]byte{

@@ -3,6 +3,7 @@
 package main
 
 import (
+	"context"
 	"flag"
 	"fmt"
 	"os"
@@ -43,7 +44,7 @@ func main() {
 	}
 	player.Factor, player.NoPauses, player.Limit, player.Gap, player.SameRequests = *factor, *noPauses, *limit, *gap, *same
 	fmt.Println(player.Port)
-	if err := player.Serve(); err != nil {
+	if err := player.Serve(context.Background()); err != nil {
 		fmt.Fprintln(os.Stderr, err)
 		os.Exit(1)
 	}

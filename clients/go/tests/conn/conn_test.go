@@ -1,10 +1,9 @@
-// Conns over output captures, which the program TOXICAP makes here: their laws under random scenarios, deadlines and ends, and clients over Dialers.
+// Conns over output captures, which the program TOXICAP makes here: their laws under random scenarios, and clients over Dialers.
 // SAMPLES, SESSIONS and KEEP_ALIVE name the folder of samples and two captures. Nothing waits for a time of an output.
 package conn
 
 import (
 	"bytes"
-	"encoding/json"
 	"errors"
 	"fmt"
 	"io"
@@ -13,7 +12,6 @@ import (
 	"os"
 	"os/exec"
 	"path/filepath"
-	"sort"
 	"syscall"
 	"testing"
 	"time"
@@ -56,30 +54,6 @@ func toxic(kind, attributes string) string {
 	return fmt.Sprintf(`"toxics":[{"type":"%s","attributes":{%s}}]`, kind, attributes)
 }
 
-func randomScenario(drawn *rand.Rand) string {
-	most := map[string]map[string]int{"latency": {"latency": 2000, "jitter": 400}, "bandwidth": {"rate": 40}, "slow_close": {"delay": 3000},
-		"timeout": {"timeout": 300}, "reset_peer": {"timeout": 300}, "slicer": {"average_size": 700, "delay": 20000}, "limit_data": {"bytes": 6000}}
-	kinds, proxies := []string{}, []map[string]any{}
-	for kind := range most {
-		kinds = append(kinds, kind)
-	}
-	sort.Strings(kinds)
-	for _, upstream := range []string{"10.77.0.2:80", "10.77.0.3:6379", "10.0.0.2:6379", "10.0.0.2:7001", "10.0.0.2:7002", "10.0.0.2:7003"} {
-		toxics := []map[string]any{}
-		for place := drawn.Intn(4); place > 0; place-- {
-			kind, attributes := kinds[drawn.Intn(len(kinds))], map[string]int{}
-			for name := range most[kind] {
-				attributes[name] = 1 + drawn.Intn([]int{3, most[kind][name]}[drawn.Intn(2)])
-			}
-			stream := []string{"downstream", "upstream"}[drawn.Intn(3)/2]
-			toxics = append(toxics, map[string]any{"name": fmt.Sprint(place), "type": kind, "stream": stream, "attributes": attributes})
-		}
-		proxies = append(proxies, map[string]any{"name": upstream, "upstream": upstream, "enabled": drawn.Intn(10) > 0, "toxics": toxics})
-	}
-	text, _ := json.Marshal(proxies)
-	return string(text)
-}
-
 // expected is what a line gives to one who reads it.
 type expected struct {
 	bytes  []byte
@@ -102,9 +76,11 @@ func expectedOf(line toxicap.Line) expected {
 func TestLaws(t *testing.T) {
 	drawn, met := rand.New(rand.NewSource(71)), map[string]int{}
 	for _, capture := range []string{sample("http-get"), sample("shop"), os.Getenv("SESSIONS")} {
-		scenarios := []string{}
+		scenarios, data := []string{}, make([]byte, 250)
 		for number := 0; number < 40; number++ {
-			scenarios = append(scenarios, randomScenario(drawn))
+			drawn.Read(data)
+			scenarios = append(scenarios, string(toxicap.FuzzScenario(data, "10.77.0.2:80", "10.77.0.3:6379", "10.0.0.2:6379", "10.0.0.2:7001", "10.0.0.2:7002",
+				"10.0.0.2:7003")))
 		}
 		for _, output := range rehearsed(t, capture, scenarios...) {
 			connections, err := toxicap.Delivered(output)
@@ -112,10 +88,10 @@ func TestLaws(t *testing.T) {
 				t.Fatal(err)
 			}
 			for _, connection := range connections {
-				for _, sides := range [][2]toxicap.Line{connection, {connection[1], connection[0]}} {
+				for _, sides := range []toxicap.Delivery{connection, {Up: connection.Down, Down: connection.Up}} {
 					c, err := toxicap.NewConn(sides)
-					if end := sides[1].End; end != nil && end.End == "refused" {
-						if met["refused"]++; c != nil || !errors.Is(err, syscall.ECONNREFUSED) {
+					if end := sides.Down.End; end != nil && end.End == "refused" {
+						if met["refused"]++; !errors.Is(c.Close(), net.ErrClosed) || !errors.Is(err, syscall.ECONNREFUSED) {
 							t.Error(err)
 						}
 						continue
@@ -123,12 +99,13 @@ func TestLaws(t *testing.T) {
 					if err != nil {
 						t.Fatal(err)
 					}
-					readAll(t, c, expectedOf(sides[1]), drawn, met)
+					c.Joins = drawn.Intn(2) == 0
+					readAll(t, c, expectedOf(sides.Down), drawn, met)
 				}
 			}
 		}
 	}
-	for _, what := range []string{"bytes", "late", "fin", "reset", "open", "refused"} {
+	for _, what := range []string{"bytes", "joined", "late", "fin", "reset", "open", "refused"} {
 		if met[what] < 30 {
 			t.Errorf("%s: %d times", what, met[what])
 		}
@@ -146,9 +123,9 @@ func (w expected) due(place int) (time.Duration, string) {
 	return time.Duration(1 << 62), "open"
 }
 
-// until is the place after what a read gives then: bytes of one chunk.
-func (w expected) until(place, most int, now time.Duration) int {
-	for begun := place; most > 0 && place < len(w.times) && w.times[place] <= now && w.chunks[place] == w.chunks[begun]; most-- {
+// until is the place after what a read gives then: bytes of one chunk, or of several.
+func (w expected) until(place, most int, now time.Duration, joins bool) int {
+	for begun := place; most > 0 && place < len(w.times) && w.times[place] <= now && (joins || w.chunks[place] == w.chunks[begun]); most-- {
 		place++
 	}
 	return place
@@ -175,90 +152,23 @@ func readAll(t *testing.T, c *toxicap.Conn, w expected, drawn *rand.Rand, met ma
 			}
 			continue
 		}
+		if c.Joins && err == nil {
+			due, what = w.times[place+count-1], "joined"
+			if away == 0 && count < len(room) && place+count < len(w.times) {
+				t.Fatalf("%d of %d bytes are joined", count, len(w.times)-place)
+			}
+		}
 		if met[what]++; what != "open" && now != due && (before < due || now != before) {
 			t.Fatalf("%s came at %v after %v, due at %v", what, now, before, due)
 		}
 		ends := map[string]bool{"fin": err == io.EOF, "reset": errors.Is(err, syscall.ECONNRESET), "open": err == toxicap.ErrStillOpen && away == 0}
-		if going = what == "bytes"; !going && ends[what] {
+		if going = what == "bytes" || what == "joined"; !going && ends[what] {
 			continue
 		}
-		next := w.until(place, len(room), now)
+		next := w.until(place, len(room), now, c.Joins)
 		if err != nil || !going || !bytes.Equal(room[:count], w.bytes[place:next]) {
 			t.Fatalf("%s at %d: %v, %q", what, place, err, room[:count])
 		}
 		place = next
-	}
-}
-
-func TestDeadlines(t *testing.T) {
-	lines, err := toxicap.Delivered(rehearsed(t, sample("http-get"), web(toxic("latency", `"latency":30000`)))[0])
-	if err != nil {
-		t.Fatal(err)
-	}
-	c, err := toxicap.NewConn(lines[0])
-	if err != nil {
-		t.Fatal(err)
-	}
-	begun, room := time.Now(), make([]byte, 4096)
-	for tries := 1; tries <= 3; tries++ {
-		c.SetDeadline(time.Now().Add(30 * time.Millisecond))
-		_, err := c.Read(room)
-		var timeout net.Error
-		most := time.Duration(tries) * 30 * time.Millisecond
-		if !errors.Is(err, os.ErrDeadlineExceeded) || !errors.As(err, &timeout) || !timeout.Timeout() || c.Now() > most {
-			t.Errorf("%v, at %v", err, c.Now())
-		}
-		if _, err := c.Write(room); !errors.Is(err, os.ErrDeadlineExceeded) {
-			t.Errorf("a write after the deadline: %v", err)
-		}
-	}
-	c.SetDeadline(time.Unix(1, 0))
-	if _, err := c.Read(room); !errors.Is(err, os.ErrDeadlineExceeded) {
-		t.Error(err)
-	}
-	c.SetDeadline(time.Now().Add(1000 * time.Hour))
-	if count, err := c.Read(room); err != nil || count != 186 || c.Now() < 30*time.Second || c.Now() > 31*time.Second {
-		t.Errorf("%d bytes, %v, at %v", count, err, c.Now())
-	}
-	if took := time.Since(begun); took > 20*time.Second {
-		t.Errorf("it took %v", took)
-	}
-}
-
-func TestEnds(t *testing.T) {
-	lines, err := toxicap.Delivered(rehearsed(t, sample("http-get"), web(toxic("reset_peer", `"timeout":1`)))[0])
-	if err != nil {
-		t.Fatal(err)
-	}
-	c, err := toxicap.NewConn(lines[0])
-	if err != nil {
-		t.Fatal(err)
-	}
-	fmt.Fprint(c, "one")
-	for _, expected := range []error{syscall.ECONNRESET, nil} {
-		if _, err := io.ReadAll(c); !errors.Is(err, expected) {
-			t.Error(err)
-		}
-	}
-	if _, err := c.Write([]byte("two")); !errors.Is(err, syscall.EPIPE) {
-		t.Errorf("a write after the reset: %v", err)
-	}
-	if found := string(c.Written()); found != "one" {
-		t.Errorf("written: %q", found)
-	}
-	c, _ = toxicap.NewConn([2]toxicap.Line{})
-	if _, err := c.Read(make([]byte, 1)); err != toxicap.ErrStillOpen {
-		t.Error(err)
-	}
-	c.CloseWrite()
-	if _, err := c.Write([]byte("x")); !errors.Is(err, syscall.EPIPE) {
-		t.Errorf("a write after CloseWrite: %v", err)
-	}
-	c.Close()
-	_, err = c.Read(nil)
-	for _, err := range []error{err, c.Close(), c.CloseWrite(), c.SetDeadline(time.Now())} {
-		if !errors.Is(err, net.ErrClosed) {
-			t.Errorf("after Close: %v", err)
-		}
 	}
 }

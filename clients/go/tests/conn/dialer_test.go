@@ -4,6 +4,7 @@ package conn
 import (
 	"bufio"
 	"bytes"
+	"context"
 	"errors"
 	"fmt"
 	"io"
@@ -49,6 +50,15 @@ func dial(t testing.TB, capture, scenario string, connection int) *toxicap.Conn 
 	return c.(*toxicap.Conn)
 }
 
+// anyServer is a scenario in which all servers of the made captures have a toxic.
+func anyServer(toxic string) string {
+	proxies := []string{}
+	for _, server := range []string{"10.0.0.2:80", "10.0.0.2:6379", "10.0.0.2:7001", "10.0.0.2:7002", "10.0.0.2:7003"} {
+		proxies = append(proxies, fmt.Sprintf(`{"name":"%s","upstream":"%s","toxics":[%s]}`, server, server, toxic))
+	}
+	return "[" + strings.Join(proxies, ",") + "]"
+}
+
 // soon wants a call to end without a wait for a time of the capture.
 func soon(t testing.TB, call func()) {
 	t.Helper()
@@ -63,8 +73,8 @@ func soon(t testing.TB, call func()) {
 
 // get is what net/http makes of the answer of the sample.
 func get(d *toxicap.Dialer) (string, error) {
-	client := http.Client{Transport: &http.Transport{DialContext: d.DialContext}}
-	defer client.CloseIdleConnections()
+	client := http.Client{Transport: d.Transport()}
+	defer d.Close()
 	answer, err := client.Get("http://any.example/hello.txt")
 	if err != nil {
 		return "", err
@@ -96,6 +106,7 @@ func TestHTTP(t *testing.T) {
 			if err != nil {
 				t.Fatal(err)
 			}
+			d.Joins = round%2 == 0
 			if body, err := get(d); err != nil || body != "Hello from the sample server.\n" {
 				t.Fatalf("%s: %q, %v", members, body, err)
 			}
@@ -122,8 +133,79 @@ func TestHTTPFaults(t *testing.T) {
 	if !errors.As(err, &timeout) || !timeout.Timeout() || d.Conns()[0].Now() != 2*time.Second {
 		t.Errorf("%v, at %v", err, d.Conns()[0].Now())
 	}
-	if _, err := d.Dial("tcp", "any.example:80"); !errors.Is(err, syscall.ECONNREFUSED) {
+	if _, err := d.Dial("tcp", "any.example:80"); !errors.Is(err, syscall.ECONNREFUSED) || !strings.Contains(err.Error(), "there are 0 (10.77.0.2:80): ") {
 		t.Errorf("a second connection: %v", err)
+	}
+}
+
+// The timeout of an http.Client is one on the connection's clock, for each request anew, and so is the deadline of a context that dials.
+func TestTimeouts(t *testing.T) {
+	quiet(t)
+	for _, row := range []struct {
+		late, expected int
+		isOwn          bool
+	}{{600, 2, false}, {600, 2, true}, {3000, 0, false}} {
+		d, count := dialer(t, os.Getenv("KEEP_ALIVE"), anyServer(fmt.Sprintf(`{"type":"latency","attributes":{"latency":%d}}`, row.late))), 0
+		client := http.Client{Timeout: time.Second, Transport: d.Transport()}
+		if row.isOwn {
+			client.Transport = &http.Transport{DialContext: d.DialContext}
+		}
+		for ; count < 2; count++ {
+			answer, err := client.Get("http://shop.test/" + string("ab"[count]))
+			if err != nil {
+				if !os.IsTimeout(err) {
+					t.Error(err)
+				}
+				break
+			}
+			io.ReadAll(answer.Body)
+			answer.Body.Close()
+		}
+		if count != row.expected || len(d.Conns()) != 1 || d.Conns()[0].Now() > 1600*time.Millisecond {
+			t.Errorf("%d ms: %d answers, at %v", row.late, count, d.Conns()[0].Now())
+		}
+		d.Close()
+	}
+	d := dialer(t, os.Getenv("KEEP_ALIVE"), anyServer(`{"type":"latency","attributes":{"latency":600}}`))
+	transport := d.Transport()
+	for number, limit := range []time.Duration{0, 300 * time.Millisecond} {
+		client := http.Client{Timeout: limit, Transport: transport}
+		answer, err := client.Get("http://shop.test/" + string("ab"[number]))
+		if os.IsTimeout(err) != (limit > 0) || len(d.Conns()) != 1 {
+			t.Errorf("request %d: %v", number, err)
+		} else if err == nil {
+			io.ReadAll(answer.Body)
+			answer.Body.Close()
+		}
+	}
+	d = dialer(t, os.Getenv("SESSIONS"), anyServer(`{"type":"latency","attributes":{"latency":3000}}`))
+	ctx, end := context.WithTimeout(context.Background(), time.Second)
+	defer end()
+	c, err := d.DialContext(ctx, "tcp", "10.0.0.2:7001")
+	if err != nil {
+		t.Fatal(err)
+	}
+	fmt.Fprint(c, "one?")
+	if _, err := c.Read(make([]byte, 9)); !os.IsTimeout(err) {
+		t.Errorf("under a context: %v", err)
+	}
+}
+
+// The address of a recorded server opens its connections, by a name too, and another address the next one.
+func TestAddresses(t *testing.T) {
+	d := dialer(t, os.Getenv("SESSIONS"), "[]")
+	d.Hosts = map[string]string{"db": "10.0.0.2"}
+	for _, row := range []struct{ address, server string }{{"10.0.0.2:7003", "10.0.0.2:7003"}, {"any:1", "10.0.0.2:6379"}, {"db:7002", "10.0.0.2:7002"},
+		{"db:7002", ""}, {"any:1", "10.0.0.2:7001"}, {"any:1", ""}} {
+		c, err := d.Dial("tcp", row.address)
+		if row.server == "" {
+			const all = "there are 0 (10.0.0.2:6379), 1 (10.0.0.2:7001), 2 (10.0.0.2:7002), 3 (10.0.0.2:7003): connect: connection refused"
+			if c != nil || !errors.Is(err, syscall.ECONNREFUSED) || !strings.HasSuffix(err.Error(), all) {
+				t.Errorf("%s: %v", row.address, err)
+			}
+		} else if err != nil || c.RemoteAddr().String() != row.server || !strings.HasPrefix(c.LocalAddr().String(), "10.0.0.1:") {
+			t.Errorf("%s: %v", row.address, err)
+		}
 	}
 }
 
@@ -131,7 +213,7 @@ func TestHTTPFaults(t *testing.T) {
 func TestKeepAlive(t *testing.T) {
 	quiet(t)
 	d := dialer(t, os.Getenv("KEEP_ALIVE"), "[]")
-	client := http.Client{Transport: &http.Transport{DialContext: d.DialContext}}
+	client := http.Client{Transport: d.Transport()}
 	for _, name := range []string{"a", "b"} {
 		answer, err := client.Get("http://shop.test/" + name)
 		if err != nil {
@@ -149,88 +231,7 @@ func TestKeepAlive(t *testing.T) {
 	client.CloseIdleConnections()
 }
 
-// A client that reads in a goroutine of its own gets each answer after its request: one like the recorded one, also when it writes ahead, at once, a
-// shorter one soon.
-func TestAnswersWait(t *testing.T) {
-	for _, requests := range [][]string{{"one?", "two?"}, {"one?two?"}, {"on", "tw"}} {
-		c, answers := dial(t, os.Getenv("SESSIONS"), "[]", 1), make(chan string, 9)
-		go func() {
-			defer close(answers)
-			for room := make([]byte, 99); ; {
-				count, err := c.Read(room)
-				if err != nil {
-					answers <- err.Error()
-					return
-				}
-				answers <- string(room[:count])
-			}
-		}()
-		time.Sleep(100 * time.Millisecond)
-		if len(answers) > 0 {
-			t.Errorf("before the request: %q", <-answers)
-		}
-		found, expected := "", []string{"1", "122333"}[2-len(requests):]
-		for place, request := range requests {
-			fmt.Fprint(c, request)
-			soon(t, func() {
-				for len(found) < len(expected[place]) {
-					found += <-answers
-				}
-			})
-			if found != expected[place] {
-				t.Errorf("%q, and expected is %q", found, expected[place])
-			}
-		}
-		if end := <-answers; end != toxicap.ErrStillOpen.Error() {
-			t.Errorf("at the end: %s", end)
-		}
-	}
-}
-
-// A Read that waits for the client ends by Close, by a deadline in the past, and by its deadline.
-func TestWaitsEnd(t *testing.T) {
-	const soonish = 50 * time.Millisecond
-	for _, each := range []struct {
-		end      func(*toxicap.Conn)
-		expected error
-	}{
-		{func(c *toxicap.Conn) { time.AfterFunc(soonish, func() { c.Close() }) }, net.ErrClosed},
-		{func(c *toxicap.Conn) { time.AfterFunc(soonish, func() { c.SetReadDeadline(time.Unix(1, 0)) }) }, os.ErrDeadlineExceeded},
-		{func(c *toxicap.Conn) { c.SetReadDeadline(time.Now().Add(soonish)) }, os.ErrDeadlineExceeded},
-	} {
-		c := dial(t, os.Getenv("SESSIONS"), "[]", 1)
-		each.end(c)
-		soon(t, func() {
-			if _, err := c.Read(make([]byte, 1)); !errors.Is(err, each.expected) {
-				t.Errorf("expected: %v, found: %v", each.expected, err)
-			}
-		})
-	}
-}
-
-func TestALimit(t *testing.T) {
-	outputs := rehearsed(t, os.Getenv("SESSIONS"))
-	d, err := toxicap.NewDialer(outputs[0], outputs[0], 1)
-	if err != nil {
-		t.Fatal(err)
-	}
-	d.Limit = 50 * time.Millisecond
-	c, err := d.Dial("tcp", "any.example:1")
-	if err != nil {
-		t.Fatal(err)
-	}
-	soon(t, func() {
-		_, err := c.Read(make([]byte, 1))
-		if err == nil || !strings.HasSuffix(err.Error(), ": the client has written 0 bytes, and the recorded one 4 before the next answer") {
-			t.Error(err)
-		}
-	})
-	if _, err := toxicap.NewDialer(outputs[0], outputs[0], 9); err == nil || err.Error() != "there is no connection 9: there are 4, numbered from 0" {
-		t.Error(err)
-	}
-}
-
-// A server that speaks first, a client that closes its side to ask, and one that reads to the end although the recorded one closed first.
+// A server that speaks first, a client that closes its side to ask, and one that reads on although the recorded one closed before the end.
 func TestOtherSessions(t *testing.T) {
 	sessions := os.Getenv("SESSIONS")
 	c := textproto.NewConn(dial(t, sessions, "[]", 3))
@@ -259,8 +260,11 @@ func TestOtherSessions(t *testing.T) {
 		if line, err := bufio.NewReader(whole).ReadString('\n'); err != nil || line != "+PONG\r\n" {
 			t.Errorf("%q, %v", line, err)
 		}
-		if rest, err := io.ReadAll(whole); err != nil || len(rest) > 0 {
-			t.Errorf("%q, %v", rest, err)
+		for _, expected := range []error{toxicap.ErrStillOpen, nil} {
+			if rest, err := io.ReadAll(whole); err != expected || len(rest) > 0 {
+				t.Errorf("%q, %v", rest, err)
+			}
+			whole.CloseWrite()
 		}
 	})
 }

@@ -4,6 +4,7 @@ package clients
 
 import (
 	"bytes"
+	"context"
 	"errors"
 	"fmt"
 	"io"
@@ -49,7 +50,7 @@ func play(t *testing.T, name string, connection int, settings func(*toxicap.Play
 	if settings != nil {
 		settings(player)
 	}
-	go player.Serve()
+	go player.Serve(context.Background())
 	t.Cleanup(func() { player.Close() })
 	return player
 }
@@ -176,7 +177,7 @@ func TestAnEndAtAnyTime(t *testing.T) {
 		}
 		player.Limit = time.Hour
 		done := make(chan struct{})
-		go func() { player.Serve(); close(done) }()
+		go func() { player.Serve(context.Background()); close(done) }()
 		if name == "http-in-a-year" || name == "much" {
 			fmt.Fprint(connect(t, player), strings.Repeat("x", 82))
 			time.Sleep(late)
@@ -191,11 +192,16 @@ func TestFaults(t *testing.T) {
 	for _, fault := range []struct {
 		output, untouched []byte
 		connection        int
+		is                error
 		expected          string
-	}{{late[0], late[1], 1, "there is no connection 1: there are 1, numbered from 0"}, {late[0], late[1], -1, "there is no connection -1: there are 1, numbered from 0"},
-		{late[0], sessions[0], 0, "the outputs are not of one capture (connections: 1 and 4)"},
-		{late[0], nil, 0, "the untouched output: no output capture of toxicap: it has another file header (rehearse the recording under [], too)"}} {
-		if _, err := toxicap.NewPlayer(fault.output, fault.untouched, fault.connection); err == nil || err.Error() != fault.expected {
+	}{{late[0], late[1], 1, toxicap.ErrNoConnection, "there is no connection 1: there are 0 (10.77.0.2:80)"},
+		{sessions[0], sessions[1], -1, toxicap.ErrNoConnection,
+			"there is no connection -1: there are 0 (10.0.0.2:6379), 1 (10.0.0.2:7001), 2 (10.0.0.2:7002), 3 (10.0.0.2:7003)"},
+		{late[0], sessions[0], 0, toxicap.ErrOutputs, "the outputs are not of one capture (connections: 1 and 4)"},
+		{late[0], nil, 0, toxicap.ErrNotOutput,
+			"the untouched output: no output capture of toxicap: it has another file header (rehearse the recording under [], too)"}} {
+		_, err := toxicap.NewPlayer(fault.output, fault.untouched, fault.connection)
+		if !errors.Is(err, fault.is) || err.Error() != fault.expected {
 			t.Errorf("expected: %s, found: %v", fault.expected, err)
 		}
 	}
@@ -206,8 +212,7 @@ func TestSwappedOutputs(t *testing.T) {
 		"sessions-cut"} {
 		both := outputs(t, name)
 		_, err := toxicap.NewPlayer(both[1], both[0], 0)
-		if err == nil || err.Error() != "connection 0 has more or earlier bytes in the first output: the output under the scenario has to come first, "+
-			"the untouched one second" {
+		if !errors.Is(err, toxicap.ErrSwapped) || !strings.HasPrefix(err.Error(), "connection 0 has more or earlier bytes in the first output: ") {
 			t.Errorf("%s: %v", name, err)
 		}
 		play(t, name, 0, nil)
@@ -221,7 +226,7 @@ func TestConnectionsThatDoNotGoTogether(t *testing.T) {
 		" is not: one port cannot do both, name the connections of one server") {
 		t.Error(err)
 	}
-	if _, err := toxicap.NewPlayer(shop[0], shop[1], []int{}...); err == nil || err.Error() != "there is no connection" {
+	if _, err := toxicap.NewPlayer(shop[0], shop[1], []int{}...); err != toxicap.ErrNoConnection {
 		t.Error(err)
 	}
 }

@@ -3,6 +3,7 @@ package clients
 
 import (
 	"bytes"
+	"context"
 	"errors"
 	"fmt"
 	"net"
@@ -28,7 +29,7 @@ func ends(t *testing.T, name string, connections []int, settings func(*toxicap.P
 	player.Limit = time.Minute
 	settings(player)
 	done := make(chan error, 1)
-	go func() { done <- player.Serve() }()
+	go func() { done <- player.Serve(context.Background()) }()
 	talk(player)
 	select {
 	case err = <-done:
@@ -126,7 +127,7 @@ func TestACloseRightAfterAClient(t *testing.T) {
 					t.Error(err)
 					return
 				}
-				go player.Serve()
+				go player.Serve(context.Background())
 				client := connect(t, player)
 				fmt.Fprint(client, "one?")
 				client.Close()
@@ -141,6 +142,38 @@ func TestACloseRightAfterAClient(t *testing.T) {
 	if len(lost) > 0 {
 		t.Errorf("%d of %d clients are lost: %s", len(lost), workers*rounds, <-lost)
 	}
+}
+
+// The end of a context ends the player, which says so.
+func TestContexts(t *testing.T) {
+	for _, name := range []string{"sessions-untouched", "http-down"} {
+		both := outputs(t, name)
+		player, err := toxicap.NewPlayer(both[0], both[1])
+		if err != nil {
+			t.Fatal(err)
+		}
+		player.Limit = time.Hour
+		ctx, end := context.WithTimeout(context.Background(), late)
+		defer end()
+		if err := player.Serve(ctx); !errors.Is(err, context.DeadlineExceeded) || player.Close().Error() != err.Error() {
+			t.Errorf("%s: %v", name, err)
+		}
+	}
+}
+
+// A client that floods the player ends it.
+func TestAFlood(t *testing.T) {
+	ends(t, "sessions-untouched", []int{1}, func(p *toxicap.Player) {}, func(p *toxicap.Player) {
+		client := connect(t, p)
+		for more := make([]byte, 1<<20); ; {
+			if _, err := client.Write(more); err != nil {
+				break
+			}
+		}
+		if count := len(p.Received()[0]); count > 20<<20 {
+			t.Errorf("%d bytes were taken", count)
+		}
+	}, " bytes more than the recorded one")
 }
 
 // A listener that fails ends the player, which says so: here it is shut down beside the player.
@@ -162,7 +195,7 @@ func TestSeveralClients(t *testing.T) {
 		t.Fatal(err)
 	}
 	player.Limit = time.Minute
-	go player.Serve()
+	go player.Serve(context.Background())
 	sent, expected := []string{"0123456789abcd", "one?two?", "sum", "bye"}, []string{"+PONG\r\n", "122333", "6", "hello"}
 	clients := []net.Conn{}
 	for range sent {
@@ -187,7 +220,7 @@ func TestSeveralClients(t *testing.T) {
 			t.Errorf("received %d: %q", place, found)
 		}
 	}
-	if err := player.Serve(); err == nil {
+	if err := player.Serve(context.Background()); err == nil {
 		t.Error("it serves twice")
 	}
 }
@@ -233,16 +266,16 @@ func apart(t *testing.T, settings func(*toxicap.Player)) {
 		if err != nil {
 			t.Fatal(err)
 		}
-		same := len(chunks) == len(connections[0][1].Chunks)
+		same := len(chunks) == len(connections[0].Down.Chunks)
 		for place := 0; same && place < len(chunks); place++ {
-			same = bytes.Equal(chunks[place], connections[0][1].Chunks[place].Bytes)
+			same = bytes.Equal(chunks[place], connections[0].Down.Chunks[place].Bytes)
 			expected++
 		}
 		if same && expected > 5 {
 			return
 		}
 		if tries == 9 {
-			t.Fatalf("%d chunks, and %d in the output", len(chunks), len(connections[0][1].Chunks))
+			t.Fatalf("%d chunks, and %d in the output", len(chunks), len(connections[0].Down.Chunks))
 		}
 	}
 }

@@ -1,8 +1,8 @@
 #!/usr/bin/env bash
 # The events that the clients read from output captures: put together they are what tshark follows of each
 # connection, with each byte's instant, and what the reports count, over the samples and two real captures under all scenarios of examples/, in
-# microseconds and in nanoseconds with a VLAN tag; of the captures of tests/rows they are what the reports count. The clients in Python, Go, Rust and C
-# give the same events, and refuse captures that toxicap did not write, each for its fault; 30,000 connections of one pair take none of them long. It
+# microseconds and in nanoseconds with a VLAN tag; of the captures of tests/rows they are what the reports count. The clients in Python, Go, Rust, C and
+# C++ give the same events, and refuse captures that toxicap did not write, each for its fault; 30,000 connections of one pair take none of them long. It
 # wants python3.
 set -euo pipefail
 cd "$(dirname "$0")/.."
@@ -102,11 +102,16 @@ if can "Go" go; then
     read_by Go go 5 "$work/dump-go"
 fi
 if can "Rust" rustc cc; then
-    verdict "Rust, compiled" "$(rustc --edition 2021 -O -o "$work/dump-rust" tests/events/dump.rs 2>&1)"
+    # without the feature that takes the library
+    verdict "Rust, compiled" "$(rustc --edition 2021 -O --crate-type rlib --crate-name toxicap --out-dir "$work" clients/rust/src/lib.rs 2>&1 &&
+        rustc --edition 2021 -O --extern "toxicap=$work/libtoxicap.rlib" -o "$work/dump-rust" tests/events/dump.rs 2>&1)"
     read_by Rust rust 5 "$work/dump-rust"
 fi
-if can "C" gcc; then
-    verdict "C, compiled" "$(gcc -std=gnu99 -Wall -Wextra -Werror -O1 -o "$work/dump-c" tests/events/dump.c 2>&1)"
-    read_by C c 5 "$work/dump-c"
-fi
+for language in "C gcc -std=gnu99" "C++ g++ -std=c++11 -pedantic -x c++"; do
+    read -r name compiler options <<< "$language"
+    can "$name" "$compiler" || continue
+    # shellcheck disable=SC2086
+    verdict "$name, compiled" "$("$compiler" $options -Wall -Wextra -Werror -O1 -o "$work/dump-$name" tests/events/dump.c 2>&1)"
+    read_by "$name" "$name" 5 "$work/dump-$name"
+done
 close

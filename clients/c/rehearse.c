@@ -5,14 +5,14 @@
 #include <stdio.h>
 
 /* Puts a file's bytes at the end of a text, and gives their number. */
-static size_t add_file(Text *text, const char *path)
+static size_t add_file(ToxicapText *text, const char *path)
 {
     FILE *file = fopen(path, "rb");
     if (file == NULL || fseek(file, 0, SEEK_END) != 0 || ftell(file) < 0)
         err(2, "%s", path);
     size_t len = ftell(file);
     rewind(file);
-    text->bytes = realloc(text->bytes, text->len + len + 1);
+    text->bytes = (uint8_t *)realloc(text->bytes, text->len + len + 1);
     if (text->bytes == NULL || fread(text->bytes + text->len, 1, len, file) != len || fclose(file) != 0)
         err(2, "%s", path);
     text->len += len;
@@ -32,15 +32,15 @@ static const uint8_t *store(size_t number, const char *ending, const uint8_t *by
 
 int main(int count, char **words)
 {
-    Text capture = {0}, scenarios = {0};
-    size_t *lens = calloc(count, sizeof *lens), number = 0;
+    ToxicapText capture = {NULL, 0}, scenarios = {NULL, 0};
+    size_t *lens = (size_t *)calloc(count, sizeof *lens), number = 0;
     const char *hosts = getenv("HOSTS");
     if (count < 3 || lens == NULL)
         errx(2, "CAPTURE SCENARIO..");
     add_file(&capture, words[1]);
     for (int word = 2; word < count; word++)
         lens[number++] = add_file(&scenarios, words[word]);
-    Answer it = rehearse(capture, scenarios, lens, number, hosts != NULL ? hosts : "", 0);
+    ToxicapAnswer it = toxicap_answer(capture, scenarios, lens, number, hosts != NULL ? hosts : "", 0);
     if (it.status == TOXICAP_REFUSED)
         fprintf(stderr, "%.*s\n", (int)it.sizes.reports, (const char *)it.reports);
     if (it.status == TOXICAP_NO_MEMORY)

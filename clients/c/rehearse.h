@@ -1,6 +1,6 @@
-/* The functions `rehearse` and `transcript`, to be copied: they make the calls of toxicap.h, with room that grows until the answer fits. */
-#ifndef REHEARSE_H
-#define REHEARSE_H
+/* Functions to be copied that make the calls of toxicap.h, with room that grows until the answer fits; they compile as C and as C++. */
+#ifndef TOXICAP_REHEARSE_H
+#define TOXICAP_REHEARSE_H
 
 #include <stdlib.h>
 #include <string.h>
@@ -10,7 +10,7 @@
 typedef struct {
     uint8_t *bytes;
     size_t len;
-} Text;
+} ToxicapText;
 
 /* What toxicap.h says of a call's outputs. They are one block: free(answer.lens). */
 typedef struct {
@@ -18,22 +18,26 @@ typedef struct {
     ToxicapSizes sizes;
     size_t *lens;
     uint8_t *captures, *reports;
-} Answer;
+} ToxicapAnswer;
 
 /* Of a capture under scenarios, whose texts stand one after another in `scenarios`, each as long as `lens` says; hosts are lines NAME=ADDR.
-   The status is never TOXICAP_NO_ROOM. */
-static inline Answer rehearse(Text capture, Text scenarios, const size_t *lens, size_t count, const char *hosts, uint64_t seed)
+   The status is never TOXICAP_NO_ROOM. If it is TOXICAP_REFUSED, `reports` has what is wrong and, after a line feed, what helps. */
+TOXICAP_CHECKED
+static inline ToxicapAnswer toxicap_answer(ToxicapText capture, ToxicapText scenarios, const size_t *lens, size_t count, const char *hosts,
+                                           uint64_t seed)
 {
     ToxicapInputs inputs = {capture.bytes, capture.len, scenarios.bytes, scenarios.len, lens, count, (const uint8_t *)hosts, strlen(hosts), seed};
     /* a first guess: a connection takes some 120 bytes of a report, and mostly 1,000 or more of the capture; 256 KiB at most */
     size_t each = 1024 + (capture.len < 2097152 ? capture.len / 8 : 262144);
-    Answer it = {.status = TOXICAP_NO_ROOM, .sizes = {count * (capture.len + capture.len / 2) + 4096, count * each, 2 * count}};
+    ToxicapAnswer it = {TOXICAP_NO_ROOM, {count * (capture.len + capture.len / 2) + 4096, count * each, 2 * count}, NULL, NULL, NULL};
     while (it.status == TOXICAP_NO_ROOM) {
         ToxicapSizes room = it.sizes;
         free(it.lens);
-        it.lens = malloc(room.lens * sizeof *it.lens + room.captures + room.reports + 1);
-        if (it.lens == NULL)
-            return (Answer){.status = TOXICAP_NO_MEMORY};
+        it.lens = (size_t *)malloc(room.lens * sizeof *it.lens + room.captures + room.reports + 1);
+        if (it.lens == NULL) {
+            ToxicapAnswer none = {TOXICAP_NO_MEMORY, {0, 0, 0}, NULL, NULL, NULL};
+            return none;
+        }
         it.captures = (uint8_t *)(it.lens + room.lens);
         it.reports = it.captures + room.captures;
         it.status = toxicap_rehearse(&inputs, it.captures, room.captures, it.reports, room.reports, it.lens, room.lens, &it.sizes);
@@ -41,17 +45,16 @@ static inline Answer rehearse(Text capture, Text scenarios, const size_t *lens, 
     return it;
 }
 
-/* What each side of each connection sent, and when. It is one block: free(transcript.connections). */
+/* What each side of each connection receives, and when. It is one block: free(lines.connections). */
 typedef struct {
     uint8_t status;
-    ToxicapTranscriptSizes sizes;
+    ToxicapLinesSizes sizes;
     ToxicapConnection *connections;
     ToxicapChunk *chunks;
     uint8_t *bytes;
-} Transcript;
+} ToxicapLines;
 
-/* Of an output capture or a recording; the status is never TOXICAP_NO_ROOM. An output is read as a recording is: bytes of one time are one chunk,
- * bytes at the time of a reset may lack, and where a connection's ports are used again, so do its bytes after the other's SYN.
+/* Of a capture under scenarios, as of `toxicap_answer`; the status is never TOXICAP_NO_ROOM. Each scenario has sizes.connections / count connections.
  * Bytes and chunks go on from one direction to the next:
  *
  *     const uint8_t *bytes = it.bytes;
@@ -64,20 +67,24 @@ typedef struct {
  *             bytes += way->bytes, chunk += way->chunks;
  *         }
  */
-static inline Transcript transcript(Text capture)
+TOXICAP_CHECKED
+static inline ToxicapLines toxicap_lines_of(ToxicapText capture, ToxicapText scenarios, const size_t *lens, size_t count, const char *hosts, uint64_t seed)
 {
+    ToxicapInputs inputs = {capture.bytes, capture.len, scenarios.bytes, scenarios.len, lens, count, (const uint8_t *)hosts, strlen(hosts), seed};
     /* a first guess: a record takes 70 bytes of the capture, and a connection mostly four records */
-    Transcript it = {.status = TOXICAP_NO_ROOM, .sizes = {capture.len + 1024, capture.len / 70, capture.len / 280}};
+    size_t size = count * capture.len;
+    ToxicapLines it = {TOXICAP_NO_ROOM, {size + 1024, size / 70, size / 280}, NULL, NULL, NULL};
     while (it.status == TOXICAP_NO_ROOM) {
-        ToxicapTranscriptSizes room = it.sizes;
+        ToxicapLinesSizes room = it.sizes;
         free(it.connections);
-        it.connections = malloc(room.connections * sizeof *it.connections + room.chunks * sizeof *it.chunks + room.bytes + 1);
-        if (it.connections == NULL)
-            return (Transcript){.status = TOXICAP_NO_MEMORY};
+        it.connections = (ToxicapConnection *)malloc(room.connections * sizeof *it.connections + room.chunks * sizeof *it.chunks + room.bytes + 1);
+        if (it.connections == NULL) {
+            ToxicapLines none = {TOXICAP_NO_MEMORY, {0, 0, 0}, NULL, NULL, NULL};
+            return none;
+        }
         it.chunks = (ToxicapChunk *)(it.connections + room.connections);
         it.bytes = (uint8_t *)(it.chunks + room.chunks);
-        it.status = toxicap_transcript(capture.bytes, capture.len, it.bytes, room.bytes, it.chunks, room.chunks, it.connections, room.connections,
-                                       &it.sizes);
+        it.status = toxicap_lines(&inputs, it.bytes, room.bytes, it.chunks, room.chunks, it.connections, room.connections, &it.sizes);
     }
     return it;
 }

@@ -7,24 +7,24 @@ static const char *ways[] = {"up", "down"}, *ends[] = {"", "fin", "reset", "refu
 /* The order of events by connection; those of one connection stay as they stand in the list. */
 static int order(const void *one, const void *other)
 {
-    const Event *a = *(Event *const *)one, *b = *(Event *const *)other;
+    const ToxicapEvent *a = *(ToxicapEvent *const *)one, *b = *(ToxicapEvent *const *)other;
     return a->connection != b->connection ? (a->connection < b->connection ? -1 : 1) : (a > b) - (a < b);
 }
 
 /* Prints what one direction of a connection delivered, of all its events. */
-static void print_line(Event **events, size_t count, size_t number, int is_down)
+static void print_line(ToxicapEvent **events, size_t count, size_t number, int is_down)
 {
     char end[48] = "open";
     size_t len = 0;
-    char *chunks = calloc(count + 1, 48);
+    char *chunks = (char *)calloc(count + 1, 48);
     if (chunks == NULL)
         err(1, "calloc");
     for (size_t i = 0; i < count; i++) {
-        const Event *event = events[i];
+        const ToxicapEvent *event = events[i];
         unsigned long long time = event->time;
         if (event->is_down != is_down)
             continue;
-        if (event->kind == EVENT_CHUNK)
+        if (event->kind == TOXICAP_EVENT_CHUNK)
             len += sprintf(chunks + len, "%s%llu:%zu", len > 0 ? " " : "", time, event->len);
         else
             snprintf(end, sizeof end, "%s+%llu", ends[event->kind], time);
@@ -35,19 +35,19 @@ static void print_line(Event **events, size_t count, size_t number, int is_down)
 
 static void dump(const uint8_t *capture, size_t len)
 {
-    Events events;
-    if (!events_of(capture, len, &events)) {
+    ToxicapEvents events;
+    if (!toxicap_events_of(capture, len, &events)) {
         puts(events.fault);
         return;
     }
-    Event **ordered = malloc((events.count + 1) * sizeof *ordered);
+    ToxicapEvent **ordered = (ToxicapEvent **)malloc((events.count + 1) * sizeof *ordered);
     if (ordered == NULL)
         err(1, "malloc");
     for (size_t i = 0; i < events.count; i++)
         ordered[i] = &events.all[i];
     qsort(ordered, events.count, sizeof *ordered, order);
     for (size_t i = 0; i < events.count; i++) {
-        const Event *event = ordered[i];
+        const ToxicapEvent *event = ordered[i];
         printf("%zu %llu %s ", event->connection, (unsigned long long)event->time, ways[event->is_down]);
         for (size_t byte = 0; byte < event->len; byte++)
             printf("%02x", event->bytes[byte]);
@@ -60,7 +60,7 @@ static void dump(const uint8_t *capture, size_t len)
             print_line(ordered + from, to - from, number, is_down);
     }
     free(ordered);
-    events_free(&events);
+    toxicap_events_free(&events);
 }
 
 int main(int count, char **paths)
@@ -70,7 +70,7 @@ int main(int count, char **paths)
         if (file == NULL || fseek(file, 0, SEEK_END) != 0)
             err(1, "%s", paths[i]);
         size_t len = ftell(file);
-        uint8_t *capture = malloc(len + 1);
+        uint8_t *capture = (uint8_t *)malloc(len + 1);
         rewind(file);
         if (capture == NULL || fread(capture, 1, len, file) != len)
             err(1, "%s", paths[i]);

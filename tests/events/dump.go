@@ -20,8 +20,8 @@ func dump(capture []byte) error {
 		}
 	}
 	delivered, err := toxicap.Delivered(capture)
-	for number, lines := range delivered {
-		for way, line := range lines {
+	for number, of := range delivered {
+		for way, line := range []toxicap.Line{of.Up, of.Down} {
 			end, chunks := "open", []string{}
 			if line.End != nil {
 				end = fmt.Sprintf("%s+%d", line.End.End, line.End.Time)

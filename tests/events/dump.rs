@@ -1,37 +1,21 @@
 //! Prints the events of output captures: `dump CAPTURE..`. See dump.py.
-#[path = "../../clients/rust/src/events.rs"]
-mod events;
-
-use events::{delivered, events, Direction, NotOutput, What};
-
-fn text(what: &What) -> String {
-    match what {
-        What::Chunk(bytes) => bytes.iter().map(|byte| format!("{byte:02x}")).collect(),
-        other => format!("{other:?}").to_lowercase(),
-    }
-}
+use toxicap::{delivered, events, Direction, NotOutput, What};
 
 fn dump(capture: &[u8]) -> Result<(), NotOutput> {
     for (number, found) in events(capture)?.iter().enumerate() {
         for event in found {
-            let way = if event.direction == Direction::Up {
-                "up"
-            } else {
-                "down"
+            let way = if event.direction == Direction::Up { "up" } else { "down" };
+            let text = match &event.what {
+                What::Chunk(bytes) => bytes.iter().map(|byte| format!("{byte:02x}")).collect(),
+                other => format!("{other:?}").to_lowercase(),
             };
-            println!("{number} {} {way} {}", event.time, text(&event.what));
+            println!("{number} {} {way} {text}", event.time.as_nanos());
         }
     }
     for (number, lines) in delivered(capture)?.iter().enumerate() {
-        for (way, line) in ["up", "down"].iter().zip(lines) {
-            let chunks: Vec<String> = line
-                .chunks
-                .iter()
-                .map(|(time, bytes)| format!("{time}:{}", bytes.len()))
-                .collect();
-            let end = line.end.as_ref().map_or("open".to_string(), |(time, end)| {
-                format!("{}+{time}", text(end))
-            });
+        for (way, line) in [("up", &lines.up), ("down", &lines.down)] {
+            let chunks: Vec<_> = line.chunks.iter().map(|(time, bytes)| format!("{}:{}", time.as_nanos(), bytes.len())).collect();
+            let end = line.end.map_or("open".to_string(), |(time, end)| format!("{}+{}", format!("{end:?}").to_lowercase(), time.as_nanos()));
             println!("{number} delivered {way} {end} {}", chunks.join(" "));
         }
     }

@@ -3,71 +3,9 @@
 //! An output capture has its segments in order, without repeats and gaps, so nothing is reassembled. A capture that toxicap did not write (a
 //! recording, pcapng, an output that was cut or put in another order) is refused: the error tells why, and the number of the record, from 0.
 //! Checksums are not looked at.
+use crate::delivered::{Delivered, Direction, End, Event, NotOutput, What};
 use std::collections::HashMap;
-use std::fmt;
-
-/// What comes: a chunk of bytes, or how the direction ends. `Refused` stands in both directions.
-#[derive(Clone, Debug, PartialEq)]
-pub enum What {
-    /// Bytes that come at once.
-    Chunk(Vec<u8>),
-    /// A FIN, or a close in the report.
-    Fin,
-    /// A reset.
-    Reset,
-    /// No connection, since the proxy is disabled.
-    Refused,
-}
-
-/// Which way bytes go.
-#[derive(Clone, Copy, Debug, PartialEq)]
-pub enum Direction {
-    /// What the client sent.
-    Up,
-    /// What the server sent.
-    Down,
-}
-
-/// What comes at an instant.
-#[derive(Clone, Debug, PartialEq)]
-pub struct Event {
-    /// Nanoseconds since the opening, also where the capture counts microseconds.
-    pub time: u64,
-    /// Which way it goes.
-    pub direction: Direction,
-    /// What comes.
-    pub what: What,
-}
-
-/// What one direction of a connection delivered.
-#[derive(Clone, Debug, Default, PartialEq)]
-pub struct Line {
-    /// Its chunks, each whole (also above 1,460 bytes), with its time; several may have the same. A live read may give less, or more that came at once.
-    pub chunks: Vec<(u64, Vec<u8>)>,
-    /// Its end, if it has one, with its time.
-    pub end: Option<(u64, What)>,
-}
-
-/// Why toxicap did not write a capture.
-#[derive(Clone, Debug, PartialEq, Eq)]
-pub struct NotOutput {
-    /// The number of the record that is at fault, from 0; `None` where it is the file's header.
-    pub record: Option<usize>,
-    /// What is at fault.
-    pub why: String,
-}
-
-impl fmt::Display for NotOutput {
-    fn fmt(&self, to: &mut fmt::Formatter) -> fmt::Result {
-        to.write_str("no output capture of toxicap: ")?;
-        match self.record {
-            Some(number) => write!(to, "record {number}: {}", self.why),
-            None => to.write_str(&self.why),
-        }
-    }
-}
-
-impl std::error::Error for NotOutput {}
+use std::time::Duration;
 
 const SYN: u8 = 2;
 const ACK: u8 = 16;
@@ -77,9 +15,7 @@ const RST_ACK: u8 = 20;
 const SYN_ACK: u8 = 18;
 const LONGEST_PIECE: u32 = 1460;
 /// What follows the magic number in each output capture.
-const FILE_HEADER: [u8; 20] = [
-    2, 0, 4, 0, 0, 0, 0, 0, 0, 0, 0, 0, 255, 255, 0, 0, 1, 0, 0, 0,
-];
+const FILE_HEADER: [u8; 20] = [2, 0, 4, 0, 0, 0, 0, 0, 0, 0, 0, 0, 255, 255, 0, 0, 1, 0, 0, 0];
 const WAYS: [Direction; 2] = [Direction::Up, Direction::Down];
 
 /// VLAN, sender and receiver.
@@ -120,8 +56,7 @@ pub fn events(capture: &[u8]) -> Result<Vec<Vec<Event>>, NotOutput> {
     while number < found.len() {
         let record = &found[number];
         if record.flags == SYN && record.payload.is_empty() {
-            let (begun, length) = opening(&found[number..])
-                .ok_or_else(|| refusal(number, "no opening follows its SYN"))?;
+            let (begun, length) = opening(&found[number..]).ok_or_else(|| refusal(number, "no opening follows its SYN"))?;
             for side in [0, 1] {
                 begun.wait(&mut awaited, connections.len(), side);
             }
@@ -132,10 +67,7 @@ pub fn events(capture: &[u8]) -> Result<Vec<Vec<Event>>, NotOutput> {
             number += 1;
         }
     }
-    if connections
-        .iter()
-        .any(|c| c.begun.iter().any(|bytes| !bytes.is_empty()))
-    {
+    if connections.iter().any(|c| c.begun.iter().any(|bytes| !bytes.is_empty())) {
         return Err(refusal(number, "the end is missing"));
     }
     Ok(connections.into_iter().map(|c| c.events).collect())
@@ -146,14 +78,14 @@ pub fn events(capture: &[u8]) -> Result<Vec<Vec<Event>>, NotOutput> {
 /// # Errors
 ///
 /// Those of [`events`].
-pub fn delivered(capture: &[u8]) -> Result<Vec<[Line; 2]>, NotOutput> {
+pub fn delivered(capture: &[u8]) -> Result<Vec<Delivered>, NotOutput> {
     let lines_of = |found: Vec<Event>| {
-        let mut lines = [Line::default(), Line::default()];
+        let mut lines = Delivered::default();
         for event in found {
-            let line = &mut lines[event.direction as usize];
+            let line = if event.direction == Direction::Up { &mut lines.up } else { &mut lines.down };
             match event.what {
                 What::Chunk(bytes) => line.chunks.push((event.time, bytes)),
-                end => line.end = Some((event.time, end)),
+                What::End(end) => line.end = Some((event.time, end)),
             }
         }
         lines
@@ -162,17 +94,12 @@ pub fn delivered(capture: &[u8]) -> Result<Vec<[Line; 2]>, NotOutput> {
 }
 
 fn refusal(number: usize, why: &str) -> NotOutput {
-    NotOutput {
-        record: Some(number),
-        why: why.to_string(),
-    }
+    NotOutput { record: Some(number), why: why.to_string() }
 }
 
 /// The number at a place, its lowest byte first.
 fn little(bytes: &[u8], place: usize) -> u64 {
-    u64::from(u32::from_le_bytes(
-        bytes[place..place + 4].try_into().unwrap(),
-    ))
+    u64::from(u32::from_le_bytes(bytes[place..place + 4].try_into().unwrap()))
 }
 
 /// The number at a place, its highest byte first.
@@ -188,19 +115,12 @@ fn records(capture: &[u8]) -> Result<Vec<Record<'_>>, NotOutput> {
         _ => 0,
     };
     if tick == 0 || capture.get(4..24) != Some(&FILE_HEADER[..]) {
-        return Err(NotOutput {
-            record: None,
-            why: "it has another file header".to_string(),
-        });
+        return Err(NotOutput { record: None, why: "it has another file header".to_string() });
     }
     let (mut found, mut place) = (Vec::<Record>::new(), 24);
     while place < capture.len() {
-        let held = capture
-            .get(place + 8..place + 16)
-            .filter(|sizes| sizes[..4] == sizes[4..]);
-        let frame = held
-            .and_then(|sizes| capture.get(place + 16..place + 16 + little(sizes, 0) as usize))
-            .unwrap_or(&[]);
+        let held = capture.get(place + 8..place + 16).filter(|sizes| sizes[..4] == sizes[4..]);
+        let frame = held.and_then(|sizes| capture.get(place + 16..place + 16 + little(sizes, 0) as usize)).unwrap_or(&[]);
         let mut record = read(frame).map_err(|why| refusal(found.len(), why))?;
         let parts = little(capture, place + 4) * tick;
         record.time = little(capture, place) * 1_000_000_000 + parts;
@@ -215,11 +135,7 @@ fn records(capture: &[u8]) -> Result<Vec<Record<'_>>, NotOutput> {
 
 /// Reads a frame, as a record without its time; or tells why there is none that toxicap wrote.
 fn read(frame: &[u8]) -> Result<Record<'_>, &'static str> {
-    let link = if frame.get(12..14) == Some(&[0x81, 0]) {
-        18
-    } else {
-        14
-    };
+    let link = if frame.get(12..14) == Some(&[0x81, 0]) { 18 } else { 14 };
     if frame.len() < link + 40 {
         return Err("it is cut, or no TCP segment");
     }
@@ -234,11 +150,7 @@ fn read(frame: &[u8]) -> Result<Record<'_>, &'static str> {
     }
     Ok(Record {
         time: 0,
-        pair: (
-            &frame[12..link - 2],
-            [&ip[12..16], &tcp[..2]],
-            [&ip[16..20], &tcp[2..4]],
-        ),
+        pair: (&frame[12..link - 2], [&ip[12..16], &tcp[..2]], [&ip[16..20], &tcp[2..4]]),
         seq: big(tcp, 4),
         ack: big(tcp, 8),
         flags: tcp[13],
@@ -251,68 +163,22 @@ fn opening<'a>(found: &[Record<'a>]) -> Option<(Connection<'a>, usize)> {
     let (begin, answer) = (found[0], *found.get(1)?);
     let (vlan, client, server) = begin.pair;
     let first = begin.seq.wrapping_add(1);
-    let back = Record {
-        pair: (vlan, server, client),
-        ack: first,
-        ..begin
-    };
-    if answer
-        == (Record {
-            seq: 0,
-            flags: RST_ACK,
-            ..back
-        })
-    {
-        let events = WAYS.map(|direction| Event {
-            time: 0,
-            direction,
-            what: What::Refused,
-        });
-        return Some((
-            Connection {
-                ended: [true; 2],
-                events: events.to_vec(),
-                ..Connection::default()
-            },
-            2,
-        ));
+    let back = Record { pair: (vlan, server, client), ack: first, ..begin };
+    if answer == (Record { seq: 0, flags: RST_ACK, ..back }) {
+        let events = WAYS.map(|direction| Event { time: Duration::ZERO, direction, what: What::End(End::Refused) });
+        return Some((Connection { ended: [true; 2], events: events.to_vec(), ..Connection::default() }, 2));
     }
     let next = [first, answer.seq.wrapping_add(1)];
-    let third = Record {
-        seq: first,
-        ack: next[1],
-        flags: ACK,
-        ..begin
-    };
-    let opens = answer
-        == (Record {
-            seq: answer.seq,
-            flags: SYN_ACK,
-            ..back
-        })
-        && found.get(2) == Some(&third);
-    opens.then_some((
-        Connection {
-            opened: begin.time,
-            pairs: [begin.pair, back.pair],
-            next,
-            ..Connection::default()
-        },
-        3,
-    ))
+    let third = Record { seq: first, ack: next[1], flags: ACK, ..begin };
+    let opens = answer == (Record { seq: answer.seq, flags: SYN_ACK, ..back }) && found.get(2) == Some(&third);
+    opens.then_some((Connection { opened: begin.time, pairs: [begin.pair, back.pair], next, ..Connection::default() }, 3))
 }
 
 /// Finds the side that a record goes on with, and takes it there.
-fn go_on<'a>(
-    connections: &mut [Connection<'a>],
-    awaited: &mut Awaited<'a>,
-    record: &Record<'a>,
-) -> Result<(), String> {
+fn go_on<'a>(connections: &mut [Connection<'a>], awaited: &mut Awaited<'a>, record: &Record<'a>) -> Result<(), String> {
     let what = (record.pair, record.seq);
     let sides = awaited.remove(&what).unwrap_or_default();
-    let (able, others): (Vec<_>, Vec<_>) = sides
-        .into_iter()
-        .partition(|(number, side)| connections[*number].goes_on(*side, record));
+    let (able, others): (Vec<_>, Vec<_>) = sides.into_iter().partition(|(number, side)| connections[*number].goes_on(*side, record));
     if !others.is_empty() {
         awaited.insert(what, others);
     }
@@ -346,11 +212,7 @@ impl<'a> Connection<'a> {
         let what = match record.flags {
             FIN_ACK | RST_ACK if length == 0 && self.begun[side].is_empty() => {
                 (self.ended[side], length) = (true, 1);
-                Some(if record.flags == FIN_ACK {
-                    What::Fin
-                } else {
-                    What::Reset
-                })
+                Some(What::End(if record.flags == FIN_ACK { End::Fin } else { End::Reset }))
             }
             PSH_ACK if (1..=LONGEST_PIECE).contains(&length) => {
                 self.begun[side].extend(record.payload);
@@ -362,12 +224,8 @@ impl<'a> Connection<'a> {
             }
             _ => return false,
         };
-        let time = record.time - self.opened;
-        self.events.extend(what.map(|what| Event {
-            time,
-            direction: WAYS[side],
-            what,
-        }));
+        let time = Duration::from_nanos(record.time - self.opened);
+        self.events.extend(what.map(|what| Event { time, direction: WAYS[side], what }));
         self.next[side] = self.next[side].wrapping_add(length);
         self.sent[side] += length;
         true

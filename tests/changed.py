@@ -6,13 +6,17 @@ borders, next to them, or of another kind, and COUNT files that are made of the 
 
 FOLDER gets the files, and for each comparison a file of its name with what is at fault. The schema is left out where Python's `jsonschema` is not
 here."""
-import collections, concurrent.futures, copy, importlib.machinery, json, pathlib, random, re, subprocess, sys, types
+import collections, concurrent.futures, copy, json, pathlib, random, re, subprocess, sys
 
 try: import jsonschema
 except ImportError: jsonschema = None
 
 PROGRAM, COUNT, FOLDER = sys.argv[1], int(sys.argv[2]), pathlib.Path(sys.argv[3])
-EXAMPLES = pathlib.Path(__file__).resolve().parent.parent / 'examples'
+TOP = pathlib.Path(__file__).resolve().parent.parent
+EXAMPLES = TOP / 'examples'
+sys.path.append(str(TOP / 'clients/python'))
+sys.dont_write_bytecode = True
+from toxicap._known import unknown_fields
 PROXY = 'name listen upstream enabled toxics'.split()
 TOXIC = 'name type stream toxicity toxicity_ppm attributes'.split()
 ATTRIBUTES = {'latency': ['latency', 'jitter'], 'bandwidth': ['rate'], 'slow_close': ['delay'], 'timeout': ['timeout'], 'reset_peer': ['timeout'],
@@ -180,12 +184,8 @@ def judged(path):
 
 def explained(paths):
     """The files whose unknown fields are not those of `unknown` for examples/explain."""
-    explain = types.ModuleType('explain')
-    explain.__file__ = str(EXAMPLES / 'explain')
-    sys.dont_write_bytecode = True
-    importlib.machinery.SourceFileLoader('explain', explain.__file__).exec_module(explain)
     files = [(path, json.loads(path.read_text())) for path in paths]
-    return [str(path) for path, file in files if sorted(found[:2] for found in explain.unknown_fields(file)) != sorted(unknown(file))]
+    return [str(path) for path, file in files if sorted(found[:2] for found in unknown_fields(file)) != sorted(unknown(file))]
 
 
 random.seed(1)

@@ -48,8 +48,6 @@ verdict "no capture" "$(ends 2 "closed_loop: $work/none: No such file or directo
 printf '#!/bin/sh\nkill -9 $$\n' > "$work/killed"
 chmod +x "$work/killed"
 verdict "a killed program" "$(TOXICAP=$work/killed ends 2 "closed_loop: $work/killed ended with status -9" "${inputs[@]}" --out "$work/out")"
-told=$( (ulimit -f 1; $tool "${inputs[@]}" --out "$work/out" 2>&1 || echo "status $?") )
-verdict "no room for a file" "$([ "$told" = $'closed_loop: a file of --out or TMPDIR: File too large\nstatus 2' ] || echo "$told")"
 verdict "no scenario" "$(ends 2 'usage: ' --capture samples/shop.pcap --out "$work/out")"
 
 # an open loop would charge each answer with the queue of the earlier ones

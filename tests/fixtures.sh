@@ -269,19 +269,13 @@ project
 keep
 for command in make verify; do
     told=$( (cd "$work/project"; ulimit -f 0; TOXICAP=$work/empty "$examples/fixtures" $command < /dev/null 2>&1 || echo "status $?") )
-    verdict "no room for a file: $command" "$([[ $told = $'fixtures: a file beside the fixtures or of TMPDIR: '[FN]*$'\nstatus 2' ]] || echo "$told"; folder_difference "$work/before" "$work/project")"
+    verdict "no room for a file: $command" "$([[ $told = $'fixtures: a file of TMPDIR, or beside an output: '[FN]*$'\nstatus 2' ]] || echo "$told"; folder_difference "$work/before" "$work/project")"
 done
-# Standard output that takes nothing; the program beside the tool, and the name of both.
+# The program beside the tool.
 project
 rm "$work/project/fixtures/redis-down.txt"
-status=0
-(cd "$work/project" && "$examples/fixtures" verify > /dev/full 2> "$work/faults") || status=$?
-verdict "standard output full" "$(fault 2; told faults $'fixtures: standard output: No space left on device\n')"
-status=0
-(cd "$work/project" && "$examples/fixtures" verify >&- 2> "$work/faults") || status=$?
-verdict "standard output closed" "$(fault 2; told faults $'fixtures: standard output is closed\n')"
 mkdir -p "$work/release/bin" "$work/release/share/toxicap/examples"
-cp "$examples/fixtures" "$work/release/share/toxicap/examples"
+cp "$examples"/{fixtures,tool.py} "$work/release/share/toxicap/examples"
 ln -s ../share/toxicap/examples/fixtures "$work/release/bin/toxicap-fixtures"
 # beside: runs the tool of that release, with no toxicap on the path.
 beside() {
@@ -358,20 +352,6 @@ for KILL in 1 2 3; do
     TOXICAP=$work/killer fixtures make 2> "$work/shell"
     verdict "killed in run $KILL of the program" "$(fault 137; folder_difference "$work/before/fixtures" "$work/project/fixtures")"
 done
-printf '#!/bin/sh\necho run > %q\nexec sleep 60\n' "$RUNS" > "$work/sleeper"
-chmod +x "$work/sleeper"
-for signal in TERM INT; do
-    again
-    : > "$RUNS"
-    status=0
-    (cd "$work/project" && TOXICAP=$work/sleeper exec python3 -c 'import os, signal, sys
-signal.signal(signal.SIGINT, signal.default_int_handler)
-os.execv(sys.argv[1], sys.argv[1:])' "$examples/fixtures" make) > "$work/output" 2> "$work/faults" &
-    for ((tries = 0; tries < 600; tries++)); do [ ! -s "$RUNS" ] || break; sleep 0.1; done
-    kill -$signal $!
-    wait $! || status=$?
-    verdict "asked to end by SIG$signal" "$(fault $((128 + $(kill -l $signal)));  silent faults; folder_difference "$work/before" "$work/project")"
-done
 status=137 olds=0 news=0
 for ((step = 1; status == 137 && step < 200; step++)); do
     again
@@ -402,7 +382,7 @@ verdict "where folders cannot be exchanged in one step" "$(
 for words in "" "prune" "make fixtures.json more"; do
     # shellcheck disable=SC2086
     fixtures $words
-    verdict "words: $words" "$(fault 2; silent output; told faults $'usage: fixtures make|verify [FILE]\n')"
+    verdict "words: $words" "$(fault 2; silent output; [[ $(head -n 1 "$work/faults") = 'usage: fixtures make|verify [FILE]' ]] || cat "$work/faults")"
 done
 fixtures make fixtures
 verdict "a file without .json" "$(fault 2; silent output; told faults $'fixtures: fixtures does not end in .json, or has no name before it: name a file that lists captures and scenarios\n')"
@@ -419,7 +399,7 @@ if can "the hook" git; then
     unset GIT_DIR GIT_WORK_TREE GIT_INDEX_FILE
     project
     mkdir "$work/project/tools"
-    cp examples/fixtures "$work/project/tools"
+    cp examples/{fixtures,tool.py} "$work/project/tools"
     git -C "$work/project" init -q
     mkdir -p "$work/project/.git/hooks"
     cp examples/hooks/pre-commit "$work/project/.git/hooks"
@@ -454,10 +434,13 @@ elif ! python3 -c 'import yaml' 2> /dev/null; then skip "the workflow" "Python's
 else
     project
     mkdir -p "$work/project/tools" "$work/project/.github/actions" "$work/toxicap-1/bin"
-    cp examples/fixtures "$work/project/tools"
+    cp examples/{fixtures,tool.py} "$work/project/tools"
     cp -r examples/action "$work/project/.github/actions/toxicap"
     cp "$program" "$work/toxicap-1/bin/toxicap"
     tar -C "$work" -czf "$work/toxicap-1.tar.gz" toxicap-1
+    verdict "the workflow: actions of others by their commits" "$(
+        grep -rhE 'uses: ' "$examples"/{action,workflows} | grep -vE 'uses: (\./|[a-z]+/[a-z]+@[0-9a-f]{40} )' || true
+    )"
     sums=$(step 1 with sums)
     action=$(step 1 uses)
     # steps: the steps after the checkout, each by a shell of its own, as on a runner.

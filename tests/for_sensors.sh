@@ -73,11 +73,36 @@ verdict "a vantage without a recording" "$(
     silent output
     grep -q 'error: --vantage and --other-frames take a --recording$' "$work/faults" || cat "$work/faults"
 )"
-ln -s "$PWD/$tool" "$work/toxicap-for-sensors"
-for where in "> /dev/full" ">&-"; do
-    status=0
-    eval '"$work/toxicap-for-sensors" "$here" 2> "$work/faults" '"$where" || status=$?
-    case $where in *full) why=": No space left on device" ;; *) why=" is closed" ;; esac
-    verdict "standard output $where" "$(fault 2; told faults "toxicap-for-sensors: standard output$why"$'\n')"
+
+# Ports that are used again, and bytes of the first connection that come 3 seconds late: no wire shows that. The closed loop keeps them apart.
+awk -f tests/capture.awk > "$work/again.dump" << 'END'
+1.000000 c>s SYN 1000 0
+1.100000 s>c SYN ACK 5000 1001
+1.200000 s>c PSH ACK 5001 1001 "first"
+1.300000 s>c FIN ACK 5006 1001
+1.400000 c>s FIN ACK 1001 5007
+2.000000 c>s SYN 9000 0
+2.100000 s>c SYN ACK 7000 9001
+2.200000 s>c PSH ACK 7001 9001 "other"
+END
+xxd -r -p "$work/again.dump" "$work/again.pcap"
+echo '[{"name":"late","upstream":"10.0.0.2:80","toxics":[{"type":"latency","attributes":{"latency":3000}}]}]' > "$work/late.json"
+mkdir "$work/loop"
+run /dev/null --capture "$work/again.pcap" --scenario "$work/late.json" --out "$work/loop"
+told="1 of the connections, first 0, go on after another one, 1, has opened with the same addresses and ports, so sensors mix them"
+for words in "" "--recording $work/again.pcap --vantage client"; do
+    # shellcheck disable=SC2086
+    sees $words "$work/loop/0000.pcap"
+    verdict "ports used again: ${words%% *}" "$(
+        fault 1
+        silent output
+        told faults "for_sensors: $told: take recording.pcap and 0000.pcap of closed_loop as recording and output, or allow it by --allow-overlap"$'\n'
+    )"
+    # shellcheck disable=SC2086
+    sees --allow-overlap $words "$work/loop/0000.pcap"
+    verdict "ports used again, allowed: ${words%% *}" "$(fault 0; told faults "for_sensors: $told"$'\n'; [ -s "$work/output" ] || echo '  nothing is written')"
 done
+TOXICAP=$program examples/closed_loop --capture "$work/again.pcap" --scenario "$work/late.json" --out "$work/loop"
+sees --recording "$work/loop/recording.pcap" "$work/loop/0000.pcap"
+verdict "ports used again, in the closed loop" "$(well)"
 close

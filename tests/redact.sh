@@ -11,6 +11,13 @@ if ! can "redacted captures" python3; then close; exit; fi
 # capture NAME: makes a capture of that name in the folder `work` from segments on standard input.
 capture() { awk -f tests/capture.awk | python3 tests/summed.py > "$work/$1"; }
 
+# both: makes the captures `recorded` and `expected` of segments on standard input. What stands after => in a line is expected of the word before it.
+both() {
+    cat > "$work/segments"
+    sed 's/ => .*//' "$work/segments" | capture recorded
+    sed -E 's/ [^ ]+ => / /' "$work/segments" | capture expected
+}
+
 # redact CAPTURE WORD..: runs it; `status`, and the files `output` and `faults`, are what came.
 redact() {
     local input=$1
@@ -52,31 +59,16 @@ bytes() { printf '0x%s' "$(printf '%b' "$1" | od -An -v -tx1 | tr -d ' \n')"; }
 
 # Both directions, a token over two segments that come the wrong way about, a retransmission of a part of it, and parts that no token is made of:
 # the other direction, another connection.
-capture recorded << 'END'
+both << 'END'
 1.000000 c>s SYN 1000 0
 1.000100 s>c SYN ACK 5000 1001
 1.000200 c>s ACK 1001 5001
-1.001000 c>s PSH ACK 1001 5001 "key=sec"
+1.001000 c>s PSH ACK 1001 5001 "key=sec" => "key=xxx"
 1.002000 c>s PSH ACK 1012 5001 "!and-sec"
-1.003000 c>s PSH ACK 1008 5001 "ret!"
-1.004000 c>s PSH ACK 1005 5001 "secre"
-1.005000 s>c PSH ACK 5001 1020 "ret-secret-is-secre"
-1.006000 s>c PSH ACK 5020 1020 "t."
-1.007000 d>s SYN 7000 0
-1.008000 s>d SYN ACK 8000 7001
-1.009000 d>s PSH ACK 7001 8001 "secre"
-1.010000 c>s FIN ACK 1020 5022
-END
-capture expected << 'END'
-1.000000 c>s SYN 1000 0
-1.000100 s>c SYN ACK 5000 1001
-1.000200 c>s ACK 1001 5001
-1.001000 c>s PSH ACK 1001 5001 "key=xxx"
-1.002000 c>s PSH ACK 1012 5001 "!and-sec"
-1.003000 c>s PSH ACK 1008 5001 "xxx!"
-1.004000 c>s PSH ACK 1005 5001 "xxxxx"
-1.005000 s>c PSH ACK 5001 1020 "ret-xxxxxx-is-xxxxx"
-1.006000 s>c PSH ACK 5020 1020 "x."
+1.003000 c>s PSH ACK 1008 5001 "ret!" => "xxx!"
+1.004000 c>s PSH ACK 1005 5001 "secre" => "xxxxx"
+1.005000 s>c PSH ACK 5001 1020 "ret-secret-is-secre" => "ret-xxxxxx-is-xxxxx"
+1.006000 s>c PSH ACK 5020 1020 "t." => "x."
 1.007000 d>s SYN 7000 0
 1.008000 s>d SYN ACK 8000 7001
 1.009000 d>s PSH ACK 7001 8001 "secre"
@@ -88,120 +80,69 @@ cp "$work/expected" "$work/recorded"
 redacted "nothing to replace" 0 --text secret
 
 # Copies that differ: the token stands in the first ones, or in the last ones.
-capture recorded << 'END'
+both << 'END'
 1.000000 c>s SYN 1000 0
-1.001000 c>s PSH ACK 1001 5001 "sec"
-1.002000 c>s PSH ACK 1001 5001 "sec0et-sec1et"
-1.003000 c>s PSH ACK 1004 5001 "ret-sec"
-1.004000 c>s PSH ACK 1011 5001 "ret"
-END
-capture expected << 'END'
-1.000000 c>s SYN 1000 0
-1.001000 c>s PSH ACK 1001 5001 "xxx"
-1.002000 c>s PSH ACK 1001 5001 "xxxxxx-xxxxxx"
-1.003000 c>s PSH ACK 1004 5001 "xxx-xxx"
-1.004000 c>s PSH ACK 1011 5001 "xxx"
+1.001000 c>s PSH ACK 1001 5001 "sec" => "xxx"
+1.002000 c>s PSH ACK 1001 5001 "sec0et-sec1et" => "xxxxxx-xxxxxx"
+1.003000 c>s PSH ACK 1004 5001 "ret-sec" => "xxx-xxx"
+1.004000 c>s PSH ACK 1011 5001 "ret" => "xxx"
 END
 redacted "copies that differ" 2 --text secret
 
 # The ports of an earlier connection, numbers that pass 2^32, bytes that came with the SYN, a gap, and a session without its opening.
-capture recorded << 'END'
+both << 'END'
 1.000000 c>s SYN 1000 0
 1.001000 c>s PSH ACK 1001 5001 "sec"
-2.000000 c>s SYN 4294967292 0 "se"
-2.001000 c>s SYN 4294967292 0 "se"
-2.002000 c>s PSH ACK 4294967295 5001 "cr"
-2.003000 c>s PSH ACK 1 5001 "et,sec"
+2.000000 c>s SYN 4294967292 0 "se" => "xx"
+2.001000 c>s SYN 4294967292 0 "se" => "xx"
+2.002000 c>s PSH ACK 4294967295 5001 "cr" => "xx"
+2.003000 c>s PSH ACK 1 5001 "et,sec" => "xx,sec"
 2.004000 c>s PSH ACK 8 5001 "ret"
-3.000000 s>d PSH ACK 4294967295 1 "sec"
-3.001000 s>d PSH ACK 2 1 "ret"
-END
-capture expected << 'END'
-1.000000 c>s SYN 1000 0
-1.001000 c>s PSH ACK 1001 5001 "sec"
-2.000000 c>s SYN 4294967292 0 "xx"
-2.001000 c>s SYN 4294967292 0 "xx"
-2.002000 c>s PSH ACK 4294967295 5001 "xx"
-2.003000 c>s PSH ACK 1 5001 "xx,sec"
-2.004000 c>s PSH ACK 8 5001 "ret"
-3.000000 s>d PSH ACK 4294967295 1 "xxx"
-3.001000 s>d PSH ACK 2 1 "xxx"
+3.000000 s>d PSH ACK 4294967295 1 "sec" => "xxx"
+3.001000 s>d PSH ACK 2 1 "ret" => "xxx"
 END
 redacted "sequence numbers" 2 --text secret
 
 # What toxicap joins: a SYN ACK with another number changes nothing, nor do bytes of the server that were recorded before it.
-capture recorded << 'END'
+both << 'END'
 1.000000 c>s SYN 1000 0
 1.000100 s>c SYN ACK 5000 1001
-1.001000 s>c PSH ACK 5001 1001 "sec"
+1.001000 s>c PSH ACK 5001 1001 "sec" => "xxx"
 1.002000 s>c SYN ACK 7000 1001
-1.003000 s>c PSH ACK 5004 1001 "ret"
+1.003000 s>c PSH ACK 5004 1001 "ret" => "xxx"
 2.000000 d>s SYN 1000 0
-2.001000 s>d PSH ACK 5001 1001 "sec"
+2.001000 s>d PSH ACK 5001 1001 "sec" => "xxx"
 2.002000 s>d SYN ACK 5000 1001
-2.003000 s>d PSH ACK 5004 1001 "ret"
-END
-capture expected << 'END'
-1.000000 c>s SYN 1000 0
-1.000100 s>c SYN ACK 5000 1001
-1.001000 s>c PSH ACK 5001 1001 "xxx"
-1.002000 s>c SYN ACK 7000 1001
-1.003000 s>c PSH ACK 5004 1001 "xxx"
-2.000000 d>s SYN 1000 0
-2.001000 s>d PSH ACK 5001 1001 "xxx"
-2.002000 s>d SYN ACK 5000 1001
-2.003000 s>d PSH ACK 5004 1001 "xxx"
+2.003000 s>d PSH ACK 5004 1001 "ret" => "xxx"
 END
 redacted "a SYN ACK" 2 --text secret
 
 # What others may join: over a SYN of the other side, and over one that begins a connection. A payload between copies that differ. What stands between
 # two SYN, and nowhere else: first, here "-secr-" and "et-", or last.
-capture recorded << 'END'
+both << 'END'
 1.000000 c>s SYN 1000 0
-1.001000 c>s PSH ACK 1001 5001 "sec"
+1.001000 c>s PSH ACK 1001 5001 "sec" => "xxx"
 1.002000 s>c SYN 9000 0
-1.003000 c>s PSH ACK 1004 5001 "ret,sec"
+1.003000 c>s PSH ACK 1004 5001 "ret,sec" => "xxx,xxx"
 1.004000 c>s SYN 2000 0
-1.005000 c>s PSH ACK 1011 5001 "ret"
+1.005000 c>s PSH ACK 1011 5001 "ret" => "xxx"
 2.000000 d>s SYN 1000 0
 2.001000 d>s PSH ACK 1001 5001 "earlier-bytes"
-2.002000 d>s PSH ACK 1001 5001 "a-secret"
+2.002000 d>s PSH ACK 1001 5001 "a-secret" => "a-xxxxxx"
 2.002500 d>s PSH ACK 1001 5001 "further-bytes"
 2.003000 s>d SYN ACK 9000 0
 2.004000 d>s SYN ACK 2000 0
-2.005000 d>s PSH ACK 1001 5001 "-secr"
-2.006000 d>s PSH ACK 1006 5001 "et-"
-2.007000 d>s SYN ACK 3000 0
-2.008000 d>s PSH ACK 1001 5001 "later---bytes"
-END
-capture expected << 'END'
-1.000000 c>s SYN 1000 0
-1.001000 c>s PSH ACK 1001 5001 "xxx"
-1.002000 s>c SYN 9000 0
-1.003000 c>s PSH ACK 1004 5001 "xxx,xxx"
-1.004000 c>s SYN 2000 0
-1.005000 c>s PSH ACK 1011 5001 "xxx"
-2.000000 d>s SYN 1000 0
-2.001000 d>s PSH ACK 1001 5001 "earlier-bytes"
-2.002000 d>s PSH ACK 1001 5001 "a-xxxxxx"
-2.002500 d>s PSH ACK 1001 5001 "further-bytes"
-2.003000 s>d SYN ACK 9000 0
-2.004000 d>s SYN ACK 2000 0
-2.005000 d>s PSH ACK 1001 5001 "-xxxx"
-2.006000 d>s PSH ACK 1006 5001 "xx-"
+2.005000 d>s PSH ACK 1001 5001 "-secr" => "-xxxx"
+2.006000 d>s PSH ACK 1006 5001 "et-" => "xx-"
 2.007000 d>s SYN ACK 3000 0
 2.008000 d>s PSH ACK 1001 5001 "later---bytes"
 END
 redacted "what others may join" 4 --text secret
 
 # What was replaced matches again, with the bytes after it.
-capture recorded << 'END'
+both << 'END'
 1.000000 c>s SYN 1000 0
-1.001000 c>s PSH ACK 1001 5001 "xaxax,xxx"
-END
-capture expected << 'END'
-1.000000 c>s SYN 1000 0
-1.001000 c>s PSH ACK 1001 5001 "xxxxx,xxx"
+1.001000 c>s PSH ACK 1001 5001 "xaxax,xxx" => "xxxxx,xxx"
 END
 redacted "a text that begins and ends with x" 2 --text xax
 
@@ -209,66 +150,53 @@ redacted "a text that begins and ends with x" 2 --text xax
 offloaded() { echo "020000000002020000000001080045000000000040004006$(printf '00000a0000010a0000029c400050%08x%08x5018ffff%s0000' "$1" 5001 "$2")"; }
 sum() { python3 -c 'import sys
 print("%04x" % (-int("0a0000010a000002000600179c400050%08x%08x5018ffff0000000078787800" % (int(sys.argv[1]), 5001), 16) % 65535))' "$1"; }
-capture recorded << END
+both << END
 1.000000 c>s SYN 1000 0
-record 1.001000 $(offloaded 1001 0000)736563
-record 1.002000 $(offloaded 1004 0000)726574
-END
-capture expected << END
-1.000000 c>s SYN 1000 0
-record 1.001000 $(offloaded 1001 "$(sum 1001)")787878
-record 1.002000 $(offloaded 1004 "$(sum 1004)")787878
+record 1.001000 $(offloaded 1001 0000)736563 => $(offloaded 1001 "$(sum 1001)")787878
+record 1.002000 $(offloaded 1004 0000)726574 => $(offloaded 1004 "$(sum 1004)")787878
 END
 redacted "a total length of 0" 1 --text secret
 
 # A VLAN whose priority changes, the same peers without one, in nanoseconds, the highest byte first.
-capture recorded << 'END'
+both << 'END'
 nanoseconds
 highest
 1.000000000 c>s vlan 7 SYN 1000 0
 1.000000001 c>s SYN 1000 0
-1.000000002 c>s vlan 7 PSH ACK 1001 5001 "sec"
+1.000000002 c>s vlan 7 PSH ACK 1001 5001 "sec" => "xxx"
 1.000000003 c>s PSH ACK 1001 5001 "sec"
-1.000000004 c>s vlan 0x2007 PSH ACK 1004 5001 "ret"
-1.000000005 c>s vlan 0x2000 PSH ACK 1004 5001 "rot"
-END
-capture expected << 'END'
-nanoseconds
-highest
-1.000000000 c>s vlan 7 SYN 1000 0
-1.000000001 c>s SYN 1000 0
-1.000000002 c>s vlan 7 PSH ACK 1001 5001 "xxx"
-1.000000003 c>s PSH ACK 1001 5001 "sec"
-1.000000004 c>s vlan 0x2007 PSH ACK 1004 5001 "xxx"
+1.000000004 c>s vlan 0x2007 PSH ACK 1004 5001 "ret" => "xxx"
 1.000000005 c>s vlan 0x2000 PSH ACK 1004 5001 "rot"
 END
 redacted "a VLAN" 1 --text secret
 
 # The value of a header over two segments, by what stands before it; a dot is a dot in a text; bytes that are no text.
 header="GET / HTTP/1.1\r\nAuthorization: "
-capture recorded << END
+both << END
 1.000000 c>s SYN 1000 0
-1.001000 c>s PSH ACK 1001 5001 $(bytes "${header}Bea")
-1.002000 c>s PSH ACK 1035 5001 $(bytes "rer a.b\r\nA: a-b\r\n\xff\x00\xfe\r\n")
-END
-capture expected << END
-1.000000 c>s SYN 1000 0
-1.001000 c>s PSH ACK 1001 5001 $(bytes "${header}xxx")
-1.002000 c>s PSH ACK 1035 5001 $(bytes "xxxxxxx\r\nA: a-b\r\nxxx\r\n")
+1.001000 c>s PSH ACK 1001 5001 $(bytes "${header}Bea") => $(bytes "${header}xxx")
+1.002000 c>s PSH ACK 1035 5001 $(bytes "rer a.b\r\nA: a-b\r\n\xff\x00\xfe\r\n") => $(bytes "xxxxxxx\r\nA: a-b\r\nxxx\r\n")
 END
 redacted "the value of a header" "1 1 1" --regex '(?i)(?<=\nauthorization: )[^\r\n]+' --text a.b --regex '\xff\x00.'
 
 # A frame that was cut off: 6 of 10 bytes. Its checksum stays, as nothing can tell it.
 frame=0200000000020200000000010800450000320000400040060000$(printf '0a0000010a0000029c400050%08x%08x5018ffffabcd0000' 1001 5001)
-capture recorded << END
+both << END
 1.000000 c>s SYN 1000 0
-record 1.001000 ${frame}736563726574
-END
-capture expected << END
-1.000000 c>s SYN 1000 0
-record 1.001000 ${frame}787878787878
+record 1.001000 ${frame}736563726574 => ${frame}787878787878
 END
 redacted "a frame that was cut off" 1 --text secret
+
+# Bytes after the total length: a text that is cut there, with its rest behind, and a whole one.
+opening=02000000000202000000000108004500002800004000400600000a0000010a0000029c400050000003e80000000050020000000000000000
+ending=${frame/00320000/002b0000}736563
+both << END
+record 1.000000 ${opening}736563726574 => ${opening}000000000000
+record 1.001000 ${ending}726574 => ${ending}000000
+1.002000 c>s PSH ACK 1004 5001 "r"
+record 1.003000 ${ending}7265740000 => ${ending}0000000000
+END
+redacted "bytes after the total length" 0 --text secret
 
 # What it does not look into.
 outside="pattern 0 matches bytes that are no payload of a TCP segment; \`editcap -F pcap IN OUT"
@@ -278,10 +206,6 @@ capture others << END
 record 1.001000 $udp
 END
 refused "a datagram of UDP" "$work/others" "record 1: $outside 2\` leaves the record out" --text secret
-capture others << END
-record 1.000000 02000000000202000000000108004500002800004000400600000a0000010a0000029c400050000003e80000000050020000000000000000736563726574
-END
-refused "bytes after a datagram" "$work/others" "record 0: $outside 1\` leaves the record out" --text secret
 capture others << 'END'
 1.000000 c>s vlan 7 vlan 8 PSH ACK 1001 5001 "secret"
 END
@@ -318,20 +242,6 @@ capture others << 'END'
 END
 refused "a pattern that matches what it replaced, again and again" "$work/others" \
     "after 100 rounds the patterns still match what they replace, with bytes beside it: write them so that they take these too" --text xa
-
-# Standard output that takes nothing; the name of the command.
-ln -s "$PWD/examples/redact" "$work/toxicap-redact"
-# stopped LINE WHERE: it was to end with status 2 and this line.
-stopped() {
-    status=0
-    eval '"$work/toxicap-redact" --text crowns < samples/shop.pcap 2> "$work/faults" '"$2" || status=$?
-    verdict "standard output $2" "$(fault 2; told faults "toxicap-redact: standard output$1"$'\n')"
-}
-stopped ": No space left on device" "> /dev/full"
-stopped " is closed" ">&-"
-status=0
-"$work/toxicap-redact" --help > "$work/output" 2> "$work/faults" || status=$?
-verdict "its name" "$(well; [ "$(grep -c '^\(usage:\|   \) toxicap-redact \[' "$work/output")" = 2 ] || cat "$work/output")"
 
 # A sample: 200 lines of a web server, some over two segments, and three times 96 crowns of Redis.
 cp samples/shop.pcap "$work/recorded"

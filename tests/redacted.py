@@ -41,7 +41,7 @@ def frame(rng, tag, client, is_up, flags, sequence, acknowledged, payload):
     tcp = struct.pack('>HHIIBBHHH', port, target_port, sequence % (1 << 32), acknowledged % (1 << 32), 0x50, flags, 65535, 0, 0)
     whole = tag + b'\x08\x00' + struct.pack('>BBHHHBBH', 0x45, 0, length, 0, 0x4000, 64, 6, 0) + source + target + tcp + payload
     if 0.01 < kind < 0.03 and payload: whole = whole[:-1]
-    return b'\x02' * 12 + whole + bytes(6 if kind > 0.95 else 0)
+    return b'\x02' * 12 + whole + rng.choice([bytes(6), b'secret', b'ret', b'abc=c']) * (kind > 0.95)
 
 
 def pieces(rng, text):
@@ -128,11 +128,9 @@ def has_secret(data):
 
 
 def without_payload(whole):
-    """A frame without payload and TCP checksum."""
-    payload = parts(whole)[3]
-    at = whole.rindex(payload) if payload else len(whole)
+    """A frame without payload and TCP checksum, and with zeros after the total length."""
     ip = 18 if whole[12:14] == b'\x81\x00' else 14
-    return whole[:ip + 36] + whole[ip + 38:at] + whole[at + len(payload):]
+    return whole[:ip + 36] + whole[ip + 38:ip + 40] + bytes(len(whole) - ip - 40 - len(parts(whole)[3]))
 
 
 def file_faults(number, work):
@@ -154,7 +152,8 @@ def file_faults(number, work):
     if list(map(without_payload, frames)) != list(map(without_payload, redacted)): faults.append('more than payloads differ')
     leaks = {client.hex(): bytes(stream) for client, stream in others if has_secret(stream)}
     for whole in redacted:
-        if has_secret(parts(whole)[3]): leaks[client_of(parts(whole)[:2]).hex()] = parts(whole)[3]
+        text = whole[whole.index(b'\x08\x00', 12) + 42:]
+        if has_secret(text): leaks[client_of(parts(whole)[:2]).hex()] = text
     return faults + [f'{client}: {text}' for client, text in leaks.items()], {client for client, stream in streams if has_secret(stream)}, set(leaks)
 
 

@@ -167,6 +167,14 @@ connections that differ: 1 of 4' --form diff --scenario "$work/names.json" --sce
 writes "the CSV of two files" 0 'file,scenario,connection,client,server,vlan,proxy,up_delivered,up_recorded,up_lost,up_end,up_at,up_max,down_delivered,down_recorded,down_lost,down_end,down_at,down_max
 slow.txt,0,0,10.0.0.1:4000,10.0.0.3:6379,,1,12,12,0,fin,41786,0,18,18,0,fin,900,0
 "cut,2.txt",0,0,10.0.0.1:4000,10.0.0.3:6379,,0,12,12,0,fin,41786,0,18,18,0,fin,900,0' --form csv "$work/slow.txt" "$work/cut,2.txt"
+# Names of files that a spreadsheet would calculate.
+verdict "the CSV of names that would be calculated" "$(
+    cd "$work"
+    for name in =1 +1 @1 -1; do cp slow.txt "./$name"; done
+    "$OLDPWD/examples/report" --form csv -- =1 +1 @1 -1 | cut -d , -f 1,2 > cells
+    printf '%s\n' file,scenario "'=1,0" "'+1,0" "'@1,0" "'-1,0" > expected
+    difference expected cells
+)"
 sed '$d; s/connections 1/connections 0/' "$work/slow.txt" > "$work/none.txt"
 sed '$d' "$work/slow.txt" > "$work/torn.txt"
 writes "the JSON of two files" 0 '{"line":"scenario","file":"none.txt","scenario":0,"records":5,"rest":0,"segment":5,"short":0,"notipv4":0,"badipv4":0,"fragment":0,"nottcp":0,"cut":0,"badtcp":0,"sameends":0}
@@ -182,8 +190,8 @@ writes "no report" 2 "report: none: line 1 is no report's: 'connections 4'; toxi
 writes "a report without its first line" 2 "report: beheaded: line 1 comes before a line of a scenario: 'connections 2 unopened 0'" "$work/beheaded"
 for form in json csv table; do
     status=0
-    examples/report --form $form "$work/torn" > /dev/null 2> "$work/faults" || status=$?
-    verdict "a torn report, $form" "$(fault 2; told faults $'report: the report of scenario 0 is torn: it has 1 of 2 connections\n')"
+    examples/report --form $form "$work/torn" > "$work/output" 2> "$work/faults" || status=$?
+    verdict "a torn report, $form" "$(fault 2; silent output; told faults $'report: the report of scenario 0 is torn: it has 1 of 2 connections\n')"
 done
 head -c -1 "$work/old" > "$work/cut"
 writes "a torn line" 2 "report: cut: line 4 is torn: it has no line feed; store the report again" --form table "$work/cut"
@@ -223,16 +231,6 @@ examples/report --form table --scenario "$evil.json" "$evil" "$evil" > "$work/ou
 sed -n "1s|^$work/||p" "$work/output" > "$work/line"
 printf '%s\n' 'old\x1b[31m\n scenario 0 old\x1b[31m\n.json: records 9, notipv4 1, connections 2' > "$work/expected"
 verdict "names with control characters" "$(well; difference "$work/expected" "$work/line")"
-# Standard output that takes nothing, and the name of the command.
-ln -s "$PWD/examples/report" "$work/toxicap-report"
-for form in json csv table diff; do
-    status=0
-    "$work/toxicap-report" --form $form "$work/old" "$work/old" > /dev/full 2> "$work/faults" || status=$?
-    verdict "standard output full, $form" "$(fault 2; told faults $'toxicap-report: standard output: No space left on device\n')"
-done
-status=0
-"$work/toxicap-report" "$work/old" >&- 2> "$work/faults" || status=$?
-verdict "standard output closed" "$(fault 2; told faults $'toxicap-report: standard output is closed\n')"
 status=0
 examples/report <&- > "$work/output" 2> "$work/faults" || status=$?
 verdict "standard input closed" "$(fault 2; silent output; told faults $'report: standard input is closed\n')"

@@ -1,5 +1,5 @@
 #!/usr/bin/env bash
-# examples/timeline: its bytes, ends and marks are those of the stored reports, over the examples and the rows; docs/use/delivered.svg is what it makes;
+# examples/timeline: its bytes, ends and marks are those of the stored reports, over the examples and the rows; docs/use/delivered.svg and the README's docs/use/cut.svg are what it makes;
 # each capture that the program did not write is refused in a line. It wants python3.
 set -euo pipefail
 cd "$(dirname "$0")/.."
@@ -73,6 +73,12 @@ run /dev/null --capture samples/shop.pcap --out "$work/recorded"
 run /dev/null --capture samples/shop.pcap --scenario examples/mobile-line.json --seed 7 --out "$work/mobile-line"
 (cd "$work" && "$timeline" --connection 1 recorded/0000.pcap mobile-line/0000.pcap) > "$work/delivered.svg"
 verdict "docs/use/delivered.svg" "$(well; byte_difference docs/use/delivered.svg "$work/delivered.svg")"
+mkdir "$work"/{as-recorded,cut}
+sed -n '/^cat > cut.json/,/^END$/p' README.md | sed '1d; $d' > "$work/cut.json"
+run samples/http-get.pcap --out "$work/as-recorded"
+run samples/http-get.pcap --scenario "$work/cut.json" --out "$work/cut"
+(cd "$work" && "$timeline" as-recorded/0000.pcap cut/0000.pcap) > "$work/cut.svg"
+verdict "docs/use/cut.svg" "$(well; byte_difference docs/use/cut.svg "$work/cut.svg")"
 "$timeline" --connection 1 "$work/mobile-line/0000.pcap" > "$work/one.svg"
 awk '$1 == "scenario" || $1 == 1' examples/mobile-line.txt > "$work/report"
 verdict "one connection" "$(python3 "$judge" "$work/one.svg" "$work/report" "$work/mobile-line/0000.pcap")"
@@ -105,12 +111,5 @@ refuses "a recording" "samples/shop.pcap $no: it has another file header $first"
 refuses "a capture that is torn" "torn $no: record 1: it is cut, or no TCP segment $first" "$work/torn"
 refuses "captures of other sessions" "recorded/0000.pcap and mobile-line/0000.pcap are not of the same sessions" "$here" "$work/mobile-line/0000.pcap"
 refuses "a connection that is not there" "recorded/0000.pcap has no connection 4: it has 4" --connection 4 "$here"
-ln -s "$timeline" "$work/toxicap-timeline"
-for where in "> /dev/full" ">&-"; do
-    status=0
-    eval '"$work/toxicap-timeline" "$here" 2> "$work/faults" '"$where" || status=$?
-    case $where in *full) why=": No space left on device" ;; *) why=" is closed" ;; esac
-    verdict "standard output $where" "$(fault 2; told faults "toxicap-timeline: standard output$why"$'\n')"
-done
 refuses "no file" "absent: No such file or directory" "$work/absent"
 close

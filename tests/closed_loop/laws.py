@@ -18,7 +18,7 @@ from captures import Talk, chance_capture, chance_toxics, pcap, scenario
 from toxicap import delivered
 from toxicap.closed_loop import Unsettled, closed_loop
 
-rehearse = functools.partial(TOOL["rehearse"], TOOL["program"](), ("the capture", "the scenario"))
+rehearse = functools.partial(TOOL["rehearse"], ("the capture", "the scenario"))
 HOSTS = b"redis=10.77.0.3"
 DELAYS, CLOSES = ["latency", "bandwidth", "slicer", "slow_close"], ["limit_data", "timeout", "reset_peer"]
 FLAGS = {"S": 2, "SA": 18, "A": 16, "P": 24, "F": 17, "R": 4}

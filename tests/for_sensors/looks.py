@@ -138,4 +138,22 @@ def memory(program, folder):
     if ended[2].ru_maxrss > 30_000: print(f"  it takes {ended[2].ru_maxrss} KB")
 
 
-for part in (looks, options, ends, vantages, copies, memory): part(sys.argv[1], pathlib.Path(sys.argv[2]) / part.__name__)
+def overlaps(program, folder):
+    """800 segments of 40 KB over 20,000 pieces, all behind a gap: time for each piece and segment, not for each pair of them."""
+    client, server = Host(*CLIENT), Host(*SERVER)
+    records = exchange(client, server)[:3]
+    records += [(START + 100, server.frame(client, 5002 + 2 * at, 1001, PSH | ACK, b"b")) for at in range(20_000)]
+    records += [(START + 200, server.frame(client, 5002, 1001, PSH | ACK, b"a" * 40_000))] * 800
+    records.append((START + 300, server.frame(client, 5001, 1001, PSH | ACK, b"c")))
+    folder.mkdir()
+    (folder / "recording.pcap").write_bytes(capture(records))
+    subprocess.run([program, "--capture", folder / "recording.pcap", "--out", folder], check=True)
+    with open(folder / "seen.pcap", "wb") as file:
+        words = [TOOL, "--recording", folder / "recording.pcap", "--vantage", "server", folder / "0000.pcap"]
+        ended = os.wait4(subprocess.Popen(words, stdout=file).pid, 0)
+    told("status", ended[1], 0)
+    told("bytes", seen((folder / "seen.pcap").read_bytes())[0][0].chunks[1], [(300_000, b"c" + b"ba" * 20_000)])
+    if ended[2].ru_utime > 6: print(f"  it takes {ended[2].ru_utime} seconds")
+
+
+for part in (looks, options, ends, vantages, copies, memory, overlaps): part(sys.argv[1], pathlib.Path(sys.argv[2]) / part.__name__)

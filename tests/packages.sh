@@ -130,7 +130,8 @@ END
     if can "the types of the package" mypy && "$python" -c 'import pytest' 2> /dev/null; then
         cp tests/packages/typed.py "$away"
         mypy=(mypy --strict --no-error-summary --cache-dir "$work/mypy" --python-executable "$python")
-        passes "the types of the package" "${mypy[@]}" "$away/typed.py"
+        for each in 1 2 3; do block docs/use/python.md python $each > "$away/page_$each.py"; done
+        passes "the types of the package" "${mypy[@]}" "$away/typed.py" "$away"/page_?.py
         passes "the types in the package" "${mypy[@]}" -p toxicap
     fi
     if ! "$python" -c 'import pytest' 2> /dev/null; then
@@ -144,8 +145,8 @@ END
             { [ $ended = "$1" ] && grep -qF -- "$2" "$work/told"; } || { echo "  status $ended"; cat "$work/told"; }
         }
         verdict "pytest without golden files" "$(tested 1 'there is no golden file'; [ ! -e "$away/golden" ] || echo '  there is one now')"
-        verdict "pytest --toxicap-update" "$(tested 0 '3 passed' --toxicap-update; holds "$away/golden" cut-off.pcap cut-off.txt)"
-        verdict "pytest with golden files" "$(tested 0 '3 passed')"
+        verdict "pytest --toxicap-update" "$(tested 0 '4 passed' --toxicap-update; holds "$away/golden" cut-off.pcap cut-off.txt)"
+        verdict "pytest with golden files" "$(tested 0 '4 passed')"
         if "$python" -c 'import hypothesis' 2> /dev/null; then
             block docs/use/python.md python 3 > "$away/test_page.py"
             verdict "the page's test by hypothesis" "$(tested 0 '1 passed')"
@@ -186,19 +187,24 @@ if can "the library by CMake" gcc cmake pkg-config; then
     stored "the library by CMake, run" "$away/cmake/build/rehearse"
 fi
 
-# the header's list of what the library calls is compared with the library: another list is refused
+# the header's list of what the library calls, and its version, are compared with the library: others are refused
 mkdir -p "$work/other/crates/toxicap_c" "$work/other/crates/command_line/src"
 cp -r release "$work/other"
-cp -r crates/toxicap_c/include "$work/other/crates/toxicap_c"
 cp crates/command_line/src/texts.rt "$work/other/crates/command_line/src"
+# other_header WHAT EDIT MESSAGE: a header that is changed so is refused with this message.
+other_header() {
+    verdict "a header with another $1" "$(
+        ended=0
+        cp -r crates/toxicap_c/include "$work/other/crates/toxicap_c"
+        sed -i "$2" "$work/other/crates/toxicap_c/include/toxicap.h"
+        LIBRARY=${LIBRARY:-$PWD/crates/toxicap_c/out/libtoxicap_c.a} "$work/other/release/library" "$work/none" > "$work/told" 2>&1 || ended=$?
+        grep -q "$3" "$work/told" || ended=0
+        { [ $ended = 2 ] && [ ! -e "$work/none" ]; } || cat "$work/told"
+    )"
+}
 # shellcheck disable=SC2016
-sed -i '/It calls/s/`memmove`, //' "$work/other/crates/toxicap_c/include/toxicap.h"
-verdict "a header with another list of calls" "$(
-    ended=0
-    LIBRARY=${LIBRARY:-$PWD/crates/toxicap_c/out/libtoxicap_c.a} "$work/other/release/library" "$work/none" > "$work/told" 2>&1 || ended=$?
-    grep -q 'libtoxicap.a calls others than the header says: .* memmove ' "$work/told" || ended=0
-    { [ $ended = 2 ] && [ ! -e "$work/none" ]; } || cat "$work/told"
-)"
+other_header "list of calls" '/It calls/s/`memmove`, //' 'libtoxicap.a calls others than the header says: .* memmove '
+other_header version '/define TOXICAP_VERSION /s/$/1/' "toxicap.h has another version than $version"
 
 # unpacked FILE: unpacks one of the packages into the fresh place.
 unpacked() { tar -C "$away" -xzf "$made/$1"; }
@@ -216,6 +222,7 @@ if can "the module for Go" go gcc; then
         verdict "the module without cgo, $place" "$(quiet in_module env CGO_ENABLED=0 "GOOS=${place%/*}" "GOARCH=${place#*/}" go vet ./...)"
     done
     verdict "the module's tests, under the race detector" "$(in_module go test -race -count=1 ./... > "$work/told" 2>&1 || cat "$work/told")"
+    verdict "the module's tests without cgo" "$(in_module env CGO_ENABLED=0 go test -count=1 ./... > "$work/told" 2>&1 || cat "$work/told")"
     mkdir "$away/golden-go"
     cat > "$away/golden-go/slow_test.go" <<'END'
 package suite
@@ -307,6 +314,9 @@ if can "the crate for Rust" cargo rustc cc; then
     cp samples/http-get.pcap "$away/toxicap-$version-rust"
     verdict "docs/use/rust-and-c.md" "$(in_crate cargo test -q --offline --test page > "$work/told" 2>&1 || cat "$work/told")"
     verdict "the crate's documentation" "$(quiet in_crate cargo doc -q --offline --no-deps)"
+    if can "the crate's rust-version" cargo-clippy; then verdict "the crate's rust-version" "$(quiet in_crate cargo clippy -q --offline)"; fi
+    rm -r "$away/toxicap-$version-rust/native"
+    verdict "the crate without the library" "$(quiet in_crate cargo build -q --offline --no-default-features)"
 fi
 
 # the image
@@ -435,6 +445,10 @@ END
     sed '/x86_64-linux/d' "$made/SHA256SUMS" > "$work/no-line"
     cp "$made/$archive" "$work/$archive"
     printf x >> "$work/$archive"
+    { sha256sum /bin/sh; sed -n 's:  \(.*x86_64-linux\):  ../archive/\1:p' "$made/SHA256SUMS"; } > "$work/other-lines"
+    verdict "the action, lines of other paths" "$(acts 1 'is not what SHA256SUMS says' ARCHIVE="$archive" SUMS="$work/other-lines")"
+    cat "$made/SHA256SUMS" "$work/none-right" > "$work/two-lines"
+    verdict "the action, two lines" "$(acts 1 'is not what SHA256SUMS says' ARCHIVE="$archive" SUMS="$work/two-lines")"
     verdict "the action, no sum" "$(acts 1 'is not what SHA256SUMS says' ARCHIVE="$archive" SUMS="$work/none-right")"
     verdict "the action, no line" "$(acts 1 'is not what SHA256SUMS says' ARCHIVE="$archive" SUMS="$work/no-line")"
     verdict "the action, another archive" "$(acts 1 'is not what SHA256SUMS says' ARCHIVE="$work/$archive" SUMS="$made/SHA256SUMS")"

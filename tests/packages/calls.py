@@ -147,7 +147,6 @@ def forks(capture):
 
 def modules():
     """The modules that are not taken by the package itself."""
-    import toxicap.closed_loop
     import toxicap.player
     import toxicap.search
 
@@ -163,14 +162,16 @@ def modules():
     with toxicap.player.Player(output.capture, output.capture) as player:
         socket.create_connection(("127.0.0.1", player.port)).close()
     told("clients of a player", player.received, [b""])
-    told("the closed loop under []", toxicap.closed_loop.closed_loop(capture, b"[]").recording == capture, True)
-    connection = toxicap.delivered(output.capture)[0]
+    told("the closed loop under []", toxicap.closed_loop(capture, b"[]").recording == capture, True)
+    connection = toxicap.delivered(output)[0]
 
     async def read():
-        reader, writer = toxicap.streams(connection)
+        reader, writer = toxicap.streams(connection, waits=False)
         return await reader.read(9)
 
-    told("what a Socket and a stream receive", [toxicap.Socket(connection).recv(9), toxicap.run(read())], [connection[1].chunks[0][1][:9]] * 2)
+    with toxicap.Dialer(output, whole=False, waits=False):
+        received = [socket.create_connection(("any.example", 80)).recv(9), toxicap.run(read())]
+    told("what a socket and a stream receive", received, [connection[1].chunks[0][1][:9]] * 2)
     told("names of the package without a docstring", [name for name in toxicap.__all__ if name != "Event" and not getattr(toxicap, name).__doc__], [])
 
 

@@ -3,11 +3,12 @@
 docs/refusals.tsv (numbers, names, places, meanings, and what the program prints on a terminal after them, parts of it with a semicolon between).
 
 Compared with them are the code of the crates, the text of `--help`, what the program prints on a terminal, the tables of docs/use/scenarios.md and
-docs/use/refusals.md, the schema of scenario files, and the tools that hold a list of attributes; in docs/use/rules.md the fields of proxies and toxics
-with the schema and with those that the code reads, what each toxic does with its attributes, and the frame classes with the code; and whether the names
-that the pages for developers tell are there. A row of a table is found by the name in backquotes in its first cell; a number may be written as 10^9,
-1000000000 or 1,000,000,000. An argument is the folder of another copy of the repository. The last line is `N passed, M failed`."""
-import ast, json, pathlib, re, sys
+docs/use/refusals.md, the schema of scenario files, and the tools that hold a list of attributes; in docs/use/rules.md the fields of proxies and
+toxics with the schema and with those that the code reads, what each toxic does with its attributes, and the frame classes with the code; whether the
+names that the pages for developers tell are there, and the command that installs the gate's tools. A row of a table is found by the name in
+backquotes in its first cell; a number may be written as 10^9, 1000000000 or 1,000,000,000. An argument is the folder of another copy of the
+repository. The last line is `N passed, M failed`."""
+import ast, json, pathlib, re, subprocess, sys
 
 TREE = pathlib.Path(sys.argv[1] if sys.argv[1:] else pathlib.Path(__file__).resolve().parent.parent)
 told = []
@@ -173,7 +174,7 @@ def of_tools(toxics):
     expected = {name: [each['attribute'] for each in attributes] for name, attributes in toxics.items()}
     found = re.search(r'^ATTRIBUTES = (\{.*?\})$', text_of('tests/changed.py'), re.S | re.M)
     fact('tests/changed.py: the attributes of toxics', found and ast.literal_eval(found[1]) == expected)
-    fact('clients/python/toxicap/_effects.py: a million', '\nMILLION = 1000000\n' in text_of('clients/python/toxicap/_effects.py'))
+    fact('clients/python/toxicap/_explain.py: a million', '\nMILLION = 1000000\n' in text_of('clients/python/toxicap/_explain.py'))
 
 
 def attribute_texts(row, names):
@@ -463,6 +464,18 @@ def of_names():
         fact(f'docs/internals/{page}.md: names that are nowhere in the tree', not missing, ', '.join(sorted(missing)))
 
 
+def of_places():
+    """Whether each definition and function that the page on architecture answers a question by is in the file that it names."""
+    text = text_of('docs/internals/architecture.md')
+    places = re.findall(r'`(\w+)` in `(\w+(?:\.rt)?)`(?: of `(\w+)`|, .*? of `(\w+)`)', text)
+    fact('docs/internals/architecture.md: fifteen questions and more', len(places) >= 30, len(places))
+    for name, file, *crates in places:
+        crate = ''.join(crates)
+        path = f'crates/{crate}/src/{file}' if file.endswith('.rt') else f'crates/{crate}/specs/{file}.antt'
+        found = (TREE / path).is_file() and re.search(rf'^ *(?:.*pub .*?|.*fn ){name}\b', text_of(path), re.M)
+        fact(f'docs/internals/architecture.md: {name} in {path}', found)
+
+
 def main():
     rows, refusals = table('docs/toxics.tsv'), table('docs/refusals.tsv')
     any_toxic, toxics = [each for each in rows if each['toxic'] == 'any'], {}
@@ -493,6 +506,9 @@ def main():
     of_schema_limits()
     of_options(source)
     of_names()
+    of_places()
+    command = subprocess.run([TREE / '.ci/tools', '--print'], capture_output=True, text=True).stdout
+    fact('contributing.md: the command of .ci/tools', command and command in text_of('docs/internals/contributing.md'), command)
     print(f'{sum(told)} passed, {len(told) - sum(told)} failed')
     sys.exit(0 if all(told) else 1)
 

@@ -167,12 +167,24 @@ def go_tables():
     kinds = [row for row in rows_of('docs/refusals.tsv') if int(row['number']) < 60]
     width = max(len(row['name']) for row in kinds)
     yield '\n// The kinds of refusals.\nconst (\n'
-    for row in kinds: yield f'\t{row["name"]:{width}} Kind = {row["number"]:2} // {row["means"]}\n'
+    for row in kinds: yield f'\tErr{row["name"]:{width}} Kind = {row["number"]:2} // {row["means"]}\n'
     yield ')\n\nvar kindNames = map[Kind]string{\n'
-    for row in kinds: yield f'\t{row["name"] + ":":{width + 1}} "{row["name"]}",\n'
+    names = [f'{row["number"]}: "{row["name"]}"' for row in kinds]
+    for at in range(0, len(names), 8): yield f'\t{", ".join(names[at:at + 8])},\n'
     yield '}\n\n// The attributes of each type of toxics.\nvar attributes = []struct{ of, name string }{\n'
     for kind, name, *_ in attributes(): yield f'\t{{"{kind}", "{name}"}},\n'
     yield '}\n\n'
+
+
+def rust_kinds():
+    """The kinds of refusals, for Rust."""
+    kinds = [row for row in rows_of('docs/refusals.tsv') if int(row['number']) < 60]
+    yield '/// The kinds of refusals, by their numbers; `docs/use/refusals.md` says what to do.\n#[derive(Clone, Copy, Debug, PartialEq, Eq, Hash)]\n'
+    yield '#[non_exhaustive]\n#[rustfmt::skip]\npub enum Kind {\n'
+    for row in kinds: yield f'    #[doc = "{row["means"][0].upper()}{row["means"][1:]}."] {row["name"]} = {row["number"]},\n'
+    yield f'}}\n\n#[rustfmt::skip]\nconst KINDS: [Kind; {len(kinds)}] = [\n'
+    for at in range(0, len(kinds), 7): yield f'    {", ".join("Kind::" + row["name"] for row in kinds[at:at + 7])},\n'
+    yield '];\n'
 
 
 def rattle_table():
@@ -182,7 +194,7 @@ def rattle_table():
     yield f'const ATTRIBUTES: [(&str, &str, &str, u64, u64); {len(rows)}] = [\n{"".join(rows)}];\n'
 
 
-TABLES = {'crates/hints/src/attributes.rt': rattle_table, 'clients/go/tables.go': go_tables}
+TABLES = {'crates/hints/src/attributes.rt': rattle_table, 'clients/go/tables.go': go_tables, 'clients/rust/src/refusal.rs': rust_kinds}
 
 
 def code_faults():

@@ -1,5 +1,5 @@
 #!/usr/bin/env python3
-"""The form of the pages: bytes of README and docs in all, lines of README, one sentence a source line, words of a sentence and of a cell.
+"""The form of the pages: bytes of docs in all, lines of README, one sentence a source line, words of a sentence and of a cell.
 
     tests/pages.py [--list]
 
@@ -10,7 +10,7 @@ import re
 import sys
 
 TREE = pathlib.Path(__file__).resolve().parent.parent
-BYTES, README_LINES, WORDS, CELL_WORDS = 150_000, 110, 25, 12
+BYTES, README_LINES, WORDS, CELL_WORDS = 150_000, 120, 25, 12
 LINKS = re.compile(r'!?\[((?:[^\[\]])*)\]\([^()\s]*\)')
 SPANS = re.compile(r'(?<!`)(`+)(?!`).*?(?<!`)\1(?!`)')
 
@@ -52,9 +52,9 @@ def main():
         if faults: print(f'failed: {page.relative_to(TREE)}: {len(faults)} faults, the first in line {faults[0][0]}: {faults[0][1]}')
         if '--list' in sys.argv:
             for number, fault in faults: print(f'  {page.relative_to(TREE)}:{number}: {fault}')
-    size, lines = sum(page.stat().st_size for page in pages), pages[0].read_text(encoding='utf-8').count('\n')
+    size, lines = sum(page.stat().st_size for page in pages[1:]), pages[0].read_text(encoding='utf-8').count('\n')
     told += [size <= BYTES, lines <= README_LINES]
-    if size > BYTES: print(f'failed: pages have {size} bytes, and at most {BYTES} are allowed')
+    if size > BYTES: print(f'failed: docs have {size} bytes, and at most {BYTES} are allowed')
     if lines > README_LINES: print(f'failed: README.md has {lines} lines, and at most {README_LINES} are allowed')
     print(f'{sum(told)} passed, {len(told) - sum(told)} failed')
     return 0 if all(told) else 1

@@ -1,19 +1,15 @@
 -- No two segments that are written have one key.
-use Rattle.std.proofs.Common.{◌≡◌, ◌≤◌, ◌<◌, ℕ, ◌+◌, Bool, true, false, cond, not, ◌&&◌, nat_lt, List, [], ◌∷◌, ◌++◌, filter, map, refl, sym, ap, ap₂, ◌∙◌, subst, arith, append_assoc}
+use Rattle.std.proofs.Common.{◌≡◌, ◌≤◌, ◌<◌, ℕ, ◌+◌, Bool, true, false, cond, not, ◌&&◌, nat_lt, List, [], ◌∷◌, ◌++◌, filter, map, refl, ap, ap₂, ◌∙◌, arith, append_assoc}
 use Rattle.std.specs.List.{All, enumerate_from, flat_map}
-use Rattle.std.proofs.lemmas.List.Elements.{All-nil, All-cons, All-append, All-filter, All-weaker, filter-append}
+use Rattle.std.proofs.lemmas.List.Elements.{All-nil, All-cons, All-append, All-filter, All-weaker}
 use Rattle.std.proofs.lemmas.List.Sorted.{All-permutation}
-use Rattle.pcap_records.specs.Instants.{horizon, ticks_of}
-use Rattle.reassembly.specs.RecordedLines.{Line}
+use Rattle.pcap_records.specs.Instants.{horizon}
 use Rattle.segment_writer.specs.WrittenSegments.{WrittenConnection, Host, SentSegment, framed_segment, is_key_below, below, sorted_by_key, segments_before_horizon, opening_turn, up_turn, down_turn, written_segments, segments_sent_by}
 use Rattle.segment_writer.specs.KeyOrder.{RisesFrom, AreRising}
 use Rattle.segment_writer.specs.KeyLaws.{same_key, HasNoKeyTwice, KeysRise, AreNumbered, KeysStandOnce}
 use Rattle.segment_writer.specs.declared.framed.SegKey.{SegKey}
 use Rattle.segment_writer.specs.declared.framed.Framed.{Framed}
 use Rattle.segment_writer.specs.OrderedLists.{Ordered}
-use Rattle.segment_writer.specs.Senders.{framed_by, in_turn, line_written, opening_by, own_side, peer_in, peer_side, turn_number, turns_written}
-use Rattle.segment_writer.specs.declared.senders.Sender.{Sender}
-use Rattle.segment_writer.specs.declared.senders.Turn.TheVariants.{Opening, ClientLine, ServerLine}
 use Rattle.segment_writer.proofs.Sorting.{not_below_itself}
 use Rattle.segment_writer.proofs.InOrder.{below_order, sorted_never_falls, sorted_keeps_all}
 use Rattle.segment_writer.proofs.KeyCounts.{same_conn, same_turn, same_place, key_count, key_count-cons, key_count-sorted, key_count-filter, apart, one_alone}

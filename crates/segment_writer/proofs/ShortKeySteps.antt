@@ -1,24 +1,25 @@
 -- Short keys of segments that stand in order of connection, turn and place: sorted, they give these in order of key.
 use Rattle.std.proofs.Common.{◌≡◌, ℕ, zero, suc, ◌+◌, ◌<◌, ◌≤◌, ◌⊎◌, Bool, true, false, cond, List, [], ◌∷◌, ◌++◌, length, map, slice_index_or, inl, inr, refl, sym, ap, ap₂, ◌∙◌, subst, arith}
 use Rattle.std.specs.Cmp.{IsStrictWeakOrder}
-use Rattle.std.specs.List.{All, range_with_len}
+use Rattle.std.specs.List.{All}
 use Rattle.std.specs.List.Sorted.{IsNonDecreasing, IsPermutation}
 use Rattle.std.proofs.lemmas.Bool.{cases_lt, cases_order, false≢true}
 use Rattle.std.proofs.lemmas.Bool.Decides.{nat_tests}
 use Rattle.std.proofs.lemmas.List.{get_or-map, get_or_default, get_or_append_left, length-append, length-map, same_lists}
-use Rattle.std.proofs.lemmas.List.Elements.{All-from_get_or, All-get_or, All-map}
-use Rattle.std.proofs.lemmas.List.FromFn.{fill_by_all, get_or-map-range_with_len, length-map-range_with_len}
+use Rattle.std.proofs.lemmas.List.Elements.{All-from_get_or, All-get_or}
 use Rattle.std.proofs.lemmas.List.Sorted.{All-permutation, IsPermutation-map}
 use Rattle.std.proofs.lemmas.Simd.{map-map}
 use Rattle.std.proofs.Math.Seq.{get_or-append_seam}
 use Rattle.segment_writer.specs.KeyLaws.{HasNoKeyTwice, same_key}
+use Rattle.segment_writer.specs.OpenRows.{written_in, AreShortKeys}
 use Rattle.segment_writer.specs.OrderedLists.{Ordered}
 use Rattle.segment_writer.specs.SegmentOutlines.{no_segment}
 use Rattle.segment_writer.specs.SegmentRows.{framed_at, segment_key}
-use Rattle.segment_writer.specs.ShortKeys.{are_at, key_at, number_in, without_moment, ComesBefore, HaveShortKeys, IsShortKey}
+use Rattle.segment_writer.specs.ShortKeys.{are_at, key_at, number_in, without_moment, ComesBefore, HasShortKey, HaveShortKeys, IsShortKey}
 use Rattle.segment_writer.specs.WrittenSegments.{below, has_lower_key, is_key_below, sorted_by_key}
 use Rattle.segment_writer.specs.declared.framed.Framed.{Framed}
 use Rattle.segment_writer.specs.declared.framed.SegKey.{SegKey}
+use Rattle.segment_writer.specs.declared.open_rows.OpenRow.{OpenRow}
 use Rattle.segment_writer.specs.declared.row_segments.RowSegment.{RowSegment}
 use Rattle.segment_writer.proofs.InOrder.{below_order, key_order}
 use Rattle.segment_writer.proofs.KeyCounts.{key_count, key_count-cons, none_that, same_conn, same_place, same_turn}
@@ -95,20 +96,15 @@ key_of (x ∷ xs) zero = refl
 key_of (x ∷ xs) (suc n) = key_of xs n
 
 module _ (keys : List SegKey) (shorts : List ℕ) (have : HaveShortKeys keys (length keys) shorts) where
-  -- a number is the short key of one of the segments
-  record IsAmong (short : ℕ) : Type 0 where
-    within : number_in short < length keys
-    of : IsShortKey keys (number_in short) short
-
-  among : (i : ℕ) → i < length shorts → IsAmong (slice_index_or shorts i 0)
+  among : (i : ℕ) → i < length shorts → HasShortKey keys (slice_index_or shorts i 0)
   among i within =
       let is = have.each i (omega (arith, within, have.many)) in
       record { within = omega (arith, within, have.many, is.number); of = subst (λ n. IsShortKey keys n (slice_index_or shorts i 0)) (sym is.number) is }
 
-  all_among : All IsAmong shorts
-  all_among = All-from_get_or IsAmong shorts 0 among
+  all_among : All (HasShortKey keys) shorts
+  all_among = All-from_get_or (HasShortKey keys) shorts 0 among
 
-  rise : (a b : ℕ) → IsAmong a → IsAmong b → a ≤ b → is_key_below (key_at keys (number_in b)) (key_at keys (number_in a)) ≡ false
+  rise : (a b : ℕ) → HasShortKey keys a → HasShortKey keys b → a ≤ b → is_key_below (key_at keys (number_in b)) (key_at keys (number_in a)) ≡ false
   rise a b low high le = by (cases_order (key_at keys (number_in a)).moment (key_at keys (number_in b)).moment) (cases_lt (number_in a) (number_in b))
     where
       before : (key_at keys (number_in b)).moment < (key_at keys (number_in a)).moment → ⊥
@@ -140,12 +136,8 @@ module _ (xs : List Framed) (shorts sorted : List ℕ) (have : HaveShortKeys (ma
   same : HaveShortKeys keys (length keys) shorts
   same = subst (λ n. HaveShortKeys keys n shorts) (sym many) have
 
-  all : All (IsAmong keys shorts same) sorted
-  all = All-permutation (IsAmong keys shorts same) shorts sorted moved (all_among keys shorts same)
-
-  pub numbers_within : All (λ n. n < length xs) (map number_in sorted)
-  numbers_within =
-      All-map (λ n. n < length xs) number_in sorted (All-from_get_or (λ s. number_in s < length xs) sorted 0 (λ i within. let is = All-get_or (IsAmong keys shorts same) sorted i 0 within all in omega (arith, is.within, many)))
+  pub all : All (HasShortKey keys) sorted
+  all = All-permutation (HasShortKey keys) shorts sorted moved (all_among keys shorts same)
 
   shown : map at shorts ≡ xs
   shown = same_lists (map at shorts) xs (length-map shorts at ∙ have.many) (λ i d within.
@@ -159,30 +151,33 @@ module _ (xs : List Framed) (shorts sorted : List ℕ) (have : HaveShortKeys (ma
       let b = slice_index_or sorted (k + 1) 0 in
       ap₂ (λ x y. below x y) (get_or-map at sorted (k + 1) 0 d inside) (get_or-map at sorted k 0 d (omega (arith, inside)))
       ∙ ap₂ is_key_below (sym (key_of xs (number_in b))) (sym (key_of xs (number_in a)))
-      ∙ rise keys shorts same a b (All-get_or (IsAmong keys shorts same) sorted k 0 (omega (arith, inside)) all) (All-get_or (IsAmong keys shorts same) sorted (k + 1) 0 inside all) (rises k (k + 1) 0 (omega arith) inside))
+      ∙ rise keys shorts same a b (All-get_or (HasShortKey keys) sorted k 0 (omega (arith, inside)) all) (All-get_or (HasShortKey keys) sorted (k + 1) 0 inside all) (rises k (k + 1) 0 (omega arith) inside))
 
-  pub numbers_in_order : IsNonDecreasing sorted → are_at xs (map number_in sorted) ≡ sorted_by_key xs
-  numbers_in_order rises =
-      map-map (λ n. slice_index_or xs n no_segment) number_in sorted
-      ∙ in_one_order xs (map at sorted) (once xs (λ i j low within. subst (λ k. ComesBefore k (slice_index_or xs j no_segment).key) (key_of xs i) (subst (λ k. ComesBefore (key_at keys i) k) (key_of xs j) (have.in_turn i j low within))))
+  pub in_order : IsNonDecreasing sorted → are_at xs sorted ≡ sorted_by_key xs
+  in_order rises =
+      in_one_order xs (map at sorted) (once xs (λ i j low within. subst (λ k. ComesBefore k (slice_index_or xs j no_segment).key) (key_of xs i) (subst (λ k. ComesBefore (key_at keys i) k) (key_of xs j) (have.in_turn i j low within))))
       (subst (λ (ys : List Framed). IsPermutation ys (map at sorted)) shown (IsPermutation-map at shorts sorted moved)) (never_falls rises)
 
 -- ---- of a row
 
-pub of_row : (gathered : List ℕ) (segments given : List RowSegment) (shorts : List ℕ) → given ≡ segments → HaveShortKeys (map segment_key given) (length given) shorts
-    → HaveShortKeys (map (λ x. x.key) (map (framed_at gathered) segments)) (length (map (framed_at gathered) segments)) shorts
-of_row gathered segments given shorts is have =
-    rw (map-map (λ (x : Framed). x.key) (framed_at gathered) segments, length-map segments (framed_at gathered)) (subst (λ (ss : List RowSegment). HaveShortKeys (map segment_key ss) (length ss) shorts) is have)
+keys_are : (row : OpenRow) → map (λ (x : Framed). x.key) (written_in row) ≡ map segment_key row.segments.items
+keys_are row = map-map (λ (x : Framed). x.key) (framed_at row.gathered.items) row.segments.items
 
--- ---- the numbers of segments as they stand
+pub short_keys_sorted : (row : OpenRow) (segments : List RowSegment) (shorts sorted : List ℕ) → segments ≡ row.segments.items → HaveShortKeys (map segment_key segments) (length segments) shorts
+    → IsPermutation shorts sorted → IsNonDecreasing sorted → AreShortKeys row sorted
+short_keys_sorted row segments shorts sorted is have moved rises = record {
+  each = subst (λ (ks : List SegKey). All (HasShortKey ks) sorted) (keys_are row) (all (written_in row) shorts sorted of moved);
+  sorted = in_order (written_in row) shorts sorted of moved rises;
+}
+  where
+    of : HaveShortKeys (map (λ (x : Framed). x.key) (written_in row)) (length (written_in row)) shorts
+    of = rw (keys_are row, length-map row.segments.items (framed_at row.gathered.items)) (subst (λ (ss : List RowSegment). HaveShortKeys (map segment_key ss) (length ss) shorts) is have)
 
-module _ (xs : List Framed) (n : ℕ) (numbers : List ℕ) (many : n ≡ length xs) (are : numbers ≡ map (λ k. k) (range_with_len 0 n)) where
-  pub counted_within : All (λ k. k < length xs) numbers
-  counted_within = subst (λ (ks : List ℕ). All (λ k. k < length xs) ks) (sym are) (All-from_get_or (λ k. k < length xs) (map (λ k. k) (range_with_len 0 n)) 0 (λ i within.
-      let below : i < n = omega (arith, within, length-map-range_with_len (λ k. k) 0 n) in
-      omega (arith, many, below, get_or-map-range_with_len (λ k. k) 0 n i i 0 below (omega arith))))
-
-  pub counted_at : are_at xs numbers ≡ xs
-  counted_at =
-      ap (are_at xs) are ∙ map-map (λ k. slice_index_or xs k no_segment) (λ k. k) (range_with_len 0 n)
-      ∙ sym (fill_by_all (λ k. slice_index_or xs k no_segment) xs n no_segment (sym many) (λ k within. refl))
+pub short_ticks : (row : OpenRow) (segments : List RowSegment) (shorts : List ℕ) (short index : ℕ) → AreShortKeys row shorts → segments ≡ row.segments.items → short ≡ slice_index_or shorts index short
+    → index < length (sorted_by_key (written_in row)) → (key_at (map segment_key segments) (number_in short)).moment ≡ (slice_index_or (sorted_by_key (written_in row)) index no_segment).key.moment
+short_ticks row segments shorts short index are is of within =
+    let at : ℕ → Framed = λ s. slice_index_or (written_in row) (number_in s) no_segment in
+    let inside : index < length shorts = omega (arith, within, ap length are.sorted, length-map shorts at) in
+    ap (λ (ss : List RowSegment). (key_at (map segment_key ss) (number_in short)).moment) is
+    ∙ ap (λ (ks : List SegKey). (key_at ks (number_in short)).moment) (sym (keys_are row)) ∙ ap (λ (k : SegKey). k.moment) (key_of (written_in row) (number_in short))
+    ∙ ap (λ s. (at s).key.moment) of ∙ ap (λ (x : Framed). x.key.moment) (sym (get_or-map at shorts index short no_segment inside) ∙ ap (λ (xs : List Framed). slice_index_or xs index no_segment) are.sorted)

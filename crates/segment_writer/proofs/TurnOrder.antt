@@ -3,14 +3,12 @@ use Rattle.std.proofs.Common.{◌≡◌, ◌≤◌, ◌<◌, ℕ, ◌+◌, Bool,
 use Rattle.std.specs.List.{enumerate_from}
 use Rattle.std.proofs.lemmas.Bool.Decides.{nat_tests}
 use Rattle.lists.proofs.Lists.{all_filter}
-use Rattle.pcap_records.specs.Instants.{horizon, ticks_of}
 use Rattle.frame_headers.specs.Layout.{payload_limit}
 use Rattle.reassembly.specs.RecordedLines.{Line}
 use Rattle.segment_writer.specs.OrderedLists.{NoneBelow, Ordered}
 use Rattle.segment_writer.specs.Senders.{framed_by, line_written, opening_by, opening_written, own_side, peer_in, peer_side, turn_number}
 use Rattle.segment_writer.specs.TimelyLines.{IsTimely}
-use Rattle.segment_writer.specs.WrittenSegments.{SentSegment, below, is_key_below, segments_before_horizon, segments_sent_by, sorted_by_key}
-use Rattle.segment_writer.specs.declared.framed.Framed.{Framed}
+use Rattle.segment_writer.specs.WrittenSegments.{SentSegment, below, is_key_below, segments_sent_by, sorted_by_key}
 use Rattle.segment_writer.specs.declared.framed.SegKey.{SegKey}
 use Rattle.segment_writer.specs.declared.senders.Sender.{Sender}
 use Rattle.segment_writer.specs.declared.senders.Turn.TheVariants.{Opening}

@@ -9,7 +9,7 @@ use Rattle.frame_headers.specs.Headers.{headers}
 use Rattle.frame_headers.specs.declared.written.Header.{Header}
 use Rattle.reassembly.specs.RecordedLines.{Line}
 use Rattle.reassembly.specs.Positions.{sequence_space}
-use Rattle.segment_writer.specs.WrittenSegments.{WrittenSide, WrittenConnection, Piece, SentSegment, segments_sent_by, segments_before_horizon, sequence_number, acknowledgment_number, opening_segment, sorted_by_key}
+use Rattle.segment_writer.specs.WrittenSegments.{WrittenSide, WrittenConnection, Piece, SentSegment, segments_sent_by, segments_before_horizon, sequence_number, acknowledgment_number, opening_segment}
 use Rattle.segment_writer.specs.declared.framed.Framed.{Framed}
 use Rattle.segment_writer.specs.declared.senders.Sender.{Sender}
 use Rattle.segment_writer.specs.declared.senders.Turn.{Turn}

@@ -11,9 +11,9 @@ number_in short = short % 2 ^ 26
 abbrev pub key_at : List SegKey → ℕ → SegKey
 key_at keys n = slice_index_or keys n no_segment.key
 
--- the segments with these numbers
+-- the segments with these short keys
 abbrev pub are_at : List Framed → List ℕ → List Framed
-are_at segments numbers = map (λ n. slice_index_or segments n no_segment) numbers
+are_at segments shorts = map (λ s. slice_index_or segments (number_in s) no_segment) shorts
 
 abbrev pub without_moment : SegKey → SegKey
 without_moment k = record { moment = 0; conn = k.conn; turn = k.turn; place = k.place }
@@ -27,6 +27,12 @@ pub record IsShortKey (keys : List SegKey) (n short : ℕ) : Type 0 where
   pub number : number_in short ≡ n
   pub early : (key_at keys 0).moment ≤ (key_at keys n).moment
   pub is : short ≡ ((key_at keys n).moment - (key_at keys 0).moment) * 2 ^ 26 + n
+  pub fits : (key_at keys n).moment < 2 ^ 64
+
+-- it is the short key of one of the segments
+pub record HasShortKey (keys : List SegKey) (short : ℕ) : Type 0 where
+  pub within : number_in short < length keys
+  pub of : IsShortKey keys (number_in short) short
 
 -- the short keys of the first `count` segments, each of which comes before those after it
 pub record HaveShortKeys (keys : List SegKey) (count : ℕ) (shorts : List ℕ) : Type 0 where

@@ -45,6 +45,11 @@ pub trait Keys: Drop {
     fn count(&self) -> usize
         ensures { result ≡ length (segments self.now) };
 
+    /// The ticks of a segment's moment.
+    fn ticks(&self, index: usize) -> u64
+        requires { index < length (segments self.now) }
+        ensures { result ≡ (slice_index_or (segments self.now) index no_segment).key.moment };
+
     /// The key of a segment.
     fn key(&self, index: usize) -> SegKey
         requires { index < length (segments self.now) }
@@ -119,6 +124,10 @@ impl Keys for SegList {
 
     fn count(&self) -> usize {
         self.list.len()
+    }
+
+    fn ticks(&self, index: usize) -> u64 {
+        self.list[index].key.moment.count()
     }
 
     fn key(&self, index: usize) -> SegKey {

@@ -1,9 +1,8 @@
 //! Short keys: numbers of 64 bits, which are sorted faster than segments.
-ghost use Rattle.std.specs.Prelude.{◌≡◌, ◌<◌, ◌+◌, ℕ, All, IfOk, IfSome, length, map, true};
-ghost use Rattle.segment_writer.specs.OpenRows.{written_in};
+ghost use Rattle.std.specs.Prelude.{◌≡◌, ◌<◌, ◌+◌, ℕ, IfOk, IfSome, length, map, true};
+ghost use Rattle.segment_writer.specs.OpenRows.{AreShortKeys};
 ghost use Rattle.segment_writer.specs.SegmentRows.{segment_key};
-ghost use Rattle.segment_writer.specs.ShortKeys.{are_at, key_at, number_in, ComesBefore, HaveShortKeys, IsShortKey};
-ghost use Rattle.segment_writer.specs.WrittenSegments.{sorted_by_key};
+ghost use Rattle.segment_writer.specs.ShortKeys.{key_at, number_in, ComesBefore, HasShortKey, HaveShortKeys, IsShortKey};
 
 use crate::framed::{SegKey, is_key_below};
 use crate::open_rows::OpenRow;
@@ -20,21 +19,19 @@ const NUMBER_LIMIT: u64 = 1 << NUMBER_BITS;
 // The ticks of each short key are below it, which is 2^38.
 const TICKS_LIMIT: u64 = 1 << (64 - NUMBER_BITS);
 
-/// The numbers of a row's segments in order of key, if short keys can give it. There must not be too many segments, and none may be before
-/// the first one or too late. They must stand in order of connection, turn and place, so that those of one moment do.
+/// The short keys of a row's segments in order of key, if they have any. There must not be too many segments, and none may be before the
+/// first one or too late. They must stand in order of connection, turn and place, so that those of one moment do.
 pub(crate) fn short_order(
     alloc: Global,
     row: &OpenRow<'_, '_>,
 ) -> Result<Option<Vec<u64>>, AllocError>
-    ensures within { IfOk result (λ found. IfSome found (λ order. All (λ n. n < length (written_in row.now)) order.items)) }
-    ensures order { IfOk result (λ found. IfSome found (λ order. are_at (written_in row.now) order.items ≡ sorted_by_key (written_in row.now))) }
+    ensures { IfOk result (λ found. IfSome found (λ short. AreShortKeys row.now short.items)) }
 {
-    let Some(mut order) = short_keys(alloc, &row.segments)? else {
+    let Some(mut short) = short_keys(alloc, &row.segments)? else {
         return Ok(None);
     };
-    order.sort_unstable();
-    keep_numbers(&mut order);
-    Ok(Some(order))
+    short.sort_unstable();
+    Ok(Some(short))
 }
 
 fn short_keys(
@@ -77,10 +74,17 @@ fn comes_before(a: &RowSegment<'_, '_>, b: &RowSegment<'_, '_>) -> bool
     is_key_below(&SegKey { moment, ..a }, &SegKey { moment, ..b })
 }
 
-fn keep_numbers(short_keys: &mut [u64])
-    ensures { short_keys.new ≡ map number_in short_keys.old }
+/// The number of the segment with this short key.
+pub(crate) fn number_in(short: u64) -> usize
+    ensures { result ≡ number_in short }
 {
-    for index in 0..short_keys.len() {
-        short_keys[index] %= NUMBER_LIMIT;
-    }
+    (short % NUMBER_LIMIT) as usize
+}
+
+/// The ticks of the moment of the segment with this short key.
+pub(crate) fn ticks_in(segments: &[RowSegment<'_, '_>], short: u64) -> u64
+    requires { HasShortKey (map segment_key segments.now) short }
+    ensures { result ≡ (key_at (map segment_key segments.now) (number_in short)).moment }
+{
+    segments[0].moment.count() + short / NUMBER_LIMIT
 }

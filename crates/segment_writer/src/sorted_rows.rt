@@ -1,6 +1,5 @@
 //! Rows of written segments in order of key.
-ghost use Rattle.std.specs.Prelude.{◌≡◌, ◌<◌, IfOk, OnOk, length, map, slice_index_or};
-ghost use Rattle.std.specs.List.{range_with_len};
+ghost use Rattle.std.specs.Prelude.{◌≡◌, ◌<◌, OnOk, length, slice_index_or};
 ghost use Rattle.segment_writer.specs.OpenRows.{written_in, IsOrder, IsRow};
 ghost use Rattle.segment_writer.specs.SegmentOutlines.{no_segment};
 ghost use Rattle.segment_writer.specs.SegmentRows.{framed_at, IsInRow};
@@ -9,7 +8,7 @@ ghost use Rattle.segment_writer.specs.WrittenSegments.{sorted_by_key};
 use crate::framed::{Keys, SegKey};
 use crate::open_rows::OpenRow;
 use crate::row_segments::RowSegment;
-use crate::short_keys::short_order;
+use crate::short_keys::{number_in, short_order, ticks_in};
 use std::alloc::{AllocError, Global};
 use std::marker::Model;
 
@@ -17,8 +16,8 @@ use std::marker::Model;
 #[derive(Debug, Drop)]
 pub struct SortedRow<'w, 'a> {
     row: OpenRow<'w, 'a>,
-    /// The numbers of the segments in the row.
-    order: Vec<u64>,
+    /// The short keys of the segments in order. If there are none, the segments stand in order of key.
+    short: Option<Vec<u64>>,
 }
 
 impl<'w, 'a> Model for SortedRow<'w, 'a> {
@@ -31,7 +30,7 @@ impl<'w, 'a> Model for SortedRow<'w, 'a> {
 
     ghost view = { λ r. sorted_by_key (written_in r.row) };
 
-    ghost invariant = { λ r. IsOrder r.row r.order.items };
+    ghost invariant = { λ r. IsOrder r.row r.short };
 }
 
 impl<'w, 'a> SortedRow<'w, 'a> {
@@ -43,13 +42,15 @@ impl<'w, 'a> SortedRow<'w, 'a> {
         requires { IsRow row }
         ensures { IfOk result (λ sorted. sorted ≡ sorted_by_key (written_in row.entry)) }
     {
-        if let Some(order) = short_order(alloc, &row)? {
-            return Ok(SortedRow { row, order });
+        if let Some(short) = short_order(alloc, &row)? {
+            return Ok(SortedRow {
+                row,
+                short: Some(short),
+            });
         }
         let mut row = row;
         sort_segments(&mut row)?;
-        let order = numbers(alloc, row.segments.len())?;
-        Ok(SortedRow { row, order })
+        Ok(SortedRow { row, short: None })
     }
 }
 
@@ -57,15 +58,22 @@ impl Keys for SortedRow<'_, '_> {
     ghost segments = { λ l. l };
 
     fn count(&self) -> usize {
-        self.order.len()
+        self.row.segments.len()
+    }
+
+    fn ticks(&self, index: usize) -> u64 {
+        match &self.short {
+            Some(short) => ticks_in(&self.row.segments, short[index]),
+            None => self.row.segments[index].moment.count(),
+        }
     }
 
     fn key(&self, index: usize) -> SegKey {
-        segment_at(&self.row, &self.order, index).key()
+        segment_at(&self.row, &self.short, index).key()
     }
 
     fn record_len(&self, index: usize) -> usize {
-        segment_at(&self.row, &self.order, index).record_len(&self.row.gathered)
+        segment_at(&self.row, &self.short, index).record_len(&self.row.gathered)
     }
 
     fn written_len(&self) -> usize {
@@ -73,21 +81,24 @@ impl Keys for SortedRow<'_, '_> {
     }
 
     fn put(&self, index: usize, out: &mut Vec<u8>) -> Result<(), AllocError> {
-        segment_at(&self.row, &self.order, index).put(&self.row.gathered, out)
+        segment_at(&self.row, &self.short, index).put(&self.row.gathered, out)
     }
 }
 
 fn segment_at<'r, 'w, 'a>(
     row: &'r OpenRow<'w, 'a>,
-    order: &[u64],
+    short: &Option<Vec<u64>>,
     index: usize,
 ) -> &'r RowSegment<'w, 'a>
-    requires order { IsOrder row.now order.now }
+    requires order { IsOrder row.now short.now }
     requires within { index < length (sorted_by_key (written_in row.now)) }
     ensures framed { framed_at row.now.gathered.items result.now ≡ slice_index_or (sorted_by_key (written_in row.now)) index no_segment }
     ensures in_row { IsInRow row.now.gathered.items result.now }
 {
-    &row.segments[order[index] as usize]
+    match short {
+        Some(short) => &row.segments[number_in(short[index])],
+        None => &row.segments[index],
+    }
 }
 
 // Puts the segments of a row in order of key.
@@ -97,15 +108,4 @@ fn sort_segments(row: &mut OpenRow<'_, '_>) -> Result<(), AllocError>
     ensures sorted { OnOk result (written_in row.new ≡ sorted_by_key (written_in row.old)) }
 {
     row.segments.sort_by_key(|segment| segment.key())
-}
-
-// The numbers below `count`.
-fn numbers(alloc: Global, count: usize) -> Result<Vec<u64>, AllocError>
-    ensures { IfOk result (λ numbers. numbers.items ≡ map (λ n. n) (range_with_len 0 count)) }
-{
-    let mut numbers = Vec::with_capacity(alloc, count)?;
-    for number in 0..count {
-        numbers.push(number as u64)?;
-    }
-    Ok(numbers)
 }

@@ -1,26 +1,96 @@
--- What is delivered of a capture's connections is made of what was recorded of them.
-use Rattle.std.proofs.Common.{◌≡◌, ℕ, suc, ◌+◌, true, false, List, [], ◌∷◌, map, find, Option, Some, None, option_map, refl, sym, ap, ◌∙◌, arith}
-use Rattle.std.specs.List.{AllByRecursion, enumerate_from, flat_map, slice_get}
-use Rattle.pcap_records.specs.CaptureView.{CaptureView, contents_of}
-use Rattle.lists.proofs.Lists.{all_append, all_found, all_map}
+-- Where deliveries stand, that each is its connection's own, and that it is made of what was recorded in time.
+use Rattle.std.proofs.Common.{◌≡◌, ℕ, ◌+◌, ◌*◌, List, length, Some, refl, ap, ap₂, ◌∙◌, arith, [], ◌∷◌, map, sym, subst, suc, true, false, find, Option, None, option_map}
+use Rattle.std.specs.List.{enumerate_from, slice_get, AllByRecursion, flat_map}
+use Rattle.std.proofs.lemmas.List.FromFn.{length-enumerate_from}
+use Rattle.conn_table.specs.IndexedSegments.{TimedSegment, IndexedSegment, indexed_segments}
+use Rattle.conn_table.specs.Connections.{Connection, connection_of, beginnings, connections}
+use Rattle.reassembly.specs.Positions.{members_of, server_of, client_of, client_base, server_base}
+use Rattle.scenarios.specs.declared.proxies.Proxy.{Proxy}
+use Rattle.conn_workers.specs.Recordings.{met_proxy, contribution, contribution_of, connections_of, delivery, delivery_of, deliveries, whole_connections, recording_in, recordings_of, met_of}
+use Rattle.conn_workers.specs.DeliveryLaws.{RowsAreWhole, DeliveriesArePlaced, table_connections, IsDeliveredOf, IsMadeOf, IsOfRecorded, IsOfScenario}
+use Rattle.conn_workers.proofs.RowLemmas.{length-rows, cell_found, numbered, number_is}
+use Rattle.pcap_records.specs.Instants.{horizon}
+use Rattle.pcap_records.specs.CaptureView.{CaptureView, IsSoundCapture, contents_of}
+use Rattle.lists.proofs.Lists.{all_weaker, all_map, all_append, all_found}
+use Rattle.conn_table.specs.IndexedConnections.{without_indices, IndexedConnectionsAgree}
+use Rattle.reassembly.specs.RecordedLines.{recorded_connection, Line, RecordedConnection}
+use Rattle.reassembly.specs.LineLaws.{RecordedSidesAreLines, RecordedSidesLieBetween}
+use Rattle.reassembly.specs.ConnectionInstants.{IsInTime, ConnectionsAreInTime}
+use Rattle.toxic_defs.specs.Laws.{IsRecordedInTime, IsBeforeHorizon, Delays, MetInRange, CutLinesEndInTime, DelayedBytesAreTheFirst, DeliveredIsRecorded}
+use Rattle.conn_workers.proofs.TableConnections.{all_segments, connections_are}
 use Rattle.frame_headers.specs.declared.peers.Peer.{Peer}
 use Rattle.conn_table.specs.SeenCapture.{seen_capture}
-use Rattle.conn_table.specs.IndexedSegments.{indexed_segments}
-use Rattle.conn_table.specs.Connections.{Connection}
-use Rattle.reassembly.specs.Positions.{server_of}
-use Rattle.reassembly.specs.RecordedLines.{Line, RecordedConnection, recorded_connection}
 use Rattle.reassembly.proofs.MappedLists.{and_both}
 use Rattle.toxic_defs.specs.Toxics.{chain}
 use Rattle.toxic_defs.specs.DeliveredLines.{MetProxy, DeliveredConnection, connection_by_cut, connection_by_proxy, delivered_connection}
-use Rattle.toxic_defs.specs.Laws.{IsBeforeHorizon, Delays, MetInRange, IsRecordedInTime, CutLinesEndInTime, DelayedBytesAreTheFirst, DeliveredIsRecorded}
 use Rattle.scenarios.specs.Populate.{leads_to}
 use Rattle.scenarios.specs.ProxyLaws.{IsSound}
-use Rattle.scenarios.specs.declared.proxies.Proxy.{Proxy}
-use Rattle.conn_workers.specs.MetProxies.{met_of, met_proxy}
-use Rattle.conn_workers.specs.Contributions.{contribution}
-use Rattle.conn_workers.specs.DeliveryRows.{delivery_of, deliveries}
-use Rattle.conn_workers.specs.RecordedDeliveries.{IsDeliveredOf, IsMadeOf, IsOfRecorded, IsOfScenario, table_connections}
-use Rattle.conn_workers.proofs.Isolated.{own_number}
+
+-- ---- where deliveries stand, and that a connection's contribution is its own
+
+pub rows_are_whole : RowsAreWhole
+unfolding deliveries
+rows_are_whole ticks seed r =
+    length-rows (delivery_of ticks seed) (enumerate_from 0 r.scenarios) (connections_of r.seen) ∙ ap (λ n. n * length (connections_of r.seen)) (length-enumerate_from 0 r.scenarios)
+
+-- connections stand in order of number
+pub own_number : (segs : List IndexedSegment) (number : ℕ) (c : Connection) → slice_get (connections segs) number ≡ Some c → c.number ≡ number
+unfolding connections
+own_number segs number c is =
+    number_is (connection_of segs) (λ x. x.number) (λ p. refl) 0 (beginnings segs) number c is ∙ (let e : 0 + number ≡ number = omega arith in e)
+
+pub deliveries_are_placed : DeliveriesArePlaced
+unfolding deliveries
+deliveries_are_placed ticks seed number s r c proxies has =
+    let own : c.number ≡ number = own_number (indexed_segments 0 r.seen.packets) number c has.connection in
+    cell_found (delivery_of ticks seed) (enumerate_from 0 r.scenarios) (connections_of r.seen) s number (s, proxies) c (numbered r.scenarios s proxies has.scenario) has.connection
+    ∙ ap (λ n. Some (delivery s n (contribution_of ticks seed (s, proxies) c))) own
+
+-- ---- isolation
+
+connection : ℕ → TimedSegment → List TimedSegment → Connection
+connection number opening later = record { number = number; opening = opening; later = later }
+
+pub same_connection : (x y : Connection) → x.number ≡ y.number → members_of x ≡ members_of y → x ≡ y
+unfolding connection
+same_connection x y number members =
+    let opening : x.opening ≡ y.opening = cc in
+    let later : x.later ≡ y.later = cc in
+    ap (λ n. connection n x.opening x.later) number ∙ ap₂ (connection y.number) opening later
+
+pub contribution_is : (ticks seed s : ℕ) (x y : Connection) (a b : List Proxy) → x ≡ y → met_proxy (server_of x) a ≡ met_proxy (server_of y) b → contribution_of ticks seed (s, a) x ≡ contribution_of ticks seed (s, b) y
+contribution_is ticks seed s x y a b same met = ap₂ (λ c m. contribution ticks c s seed m) same met
+
+-- ---- what is recorded of a capture's connections lies between their opening and the horizon
+
+recorded_in_time : RecordedSidesAreLines → RecordedSidesLieBetween → (ticks : ℕ) (x : Connection) → IsInTime ticks x → IsRecordedInTime ticks (recorded_connection x)
+recorded_in_time lines between ticks x is =
+    let opened : ℕ = x.opening.at in
+    record {
+      up = lines (members_of x) (client_of x) (Some (client_base x)) is.rising is.short;
+      down = lines (members_of x) (server_of x) (server_base x) is.rising is.short;
+      up_between = between (members_of x) (client_of x) (Some (client_base x)) opened (horizon ticks) is.between;
+      down_between = between (members_of x) (server_of x) (server_base x) opened (horizon ticks) is.between;
+      opened = is.between.0.1;
+    }
+
+pub connections_in_time : RecordedSidesAreLines → RecordedSidesLieBetween → ConnectionsAreInTime → (c : CaptureView) → IsSoundCapture c.ticks c.bytes c.records
+    → AllByRecursion (λ x. IsRecordedInTime c.ticks (recorded_connection x)) (table_connections c)
+connections_in_time lines between in_time c sound =
+    all_weaker (IsInTime c.ticks) (λ x. IsRecordedInTime c.ticks (recorded_connection x)) (recorded_in_time lines between c.ticks) (table_connections c)
+    (subst (λ segs. AllByRecursion (IsInTime c.ticks) (connections segs)) (all_segments c) (in_time c 0 (length c.records) 0 sound (omega arith)))
+
+-- what holds of each made element holds of what it is made of
+all_made : {A B : Type 0} (P : B → Type 0) (f : A → B) (xs : List A) → AllByRecursion P (map f xs) → AllByRecursion (λ x. P (f x)) xs
+all_made P f [] all = tt
+all_made P f (x ∷ xs) all = (all.0, all_made P f xs all.1)
+
+pub recordings_in_time : IndexedConnectionsAgree → (c : CaptureView) → AllByRecursion (λ x. IsRecordedInTime c.ticks (recorded_connection x)) (table_connections c)
+    → AllByRecursion (λ r. IsRecordedInTime r.ticks r.recorded) (recordings_of c)
+recordings_in_time agree c all =
+    let P : Connection → Type 0 = λ x. IsRecordedInTime c.ticks (recorded_connection x) in
+    all_map (λ r. IsRecordedInTime r.ticks r.recorded) (recording_in c) (whole_connections c)
+    (all_made P without_indices (whole_connections c) (subst (λ xs. AllByRecursion P xs) (sym (connections_are agree c)) all))
 
 -- ---- the proxy that is met
 

@@ -12,7 +12,7 @@ use Rattle.frame_headers.specs.declared.peers.Peer.{Peer}
 use Rattle.scenarios.specs.Populate.{leads_to, met_number}
 use Rattle.scenarios.specs.ProxyLaws.{IsFirstFor, FirstIsMet}
 use Rattle.scenarios.specs.declared.proxies.Proxy.{Proxy}
-use Rattle.conn_workers.specs.MetProxies.{met_of, met_proxy}
+use Rattle.conn_workers.specs.Recordings.{met_of, met_proxy}
 use Rattle.conn_workers.specs.DeliveryLaws.{IsFirstMet, FirstProxyIsMet}
 use Rattle.conn_workers.proofs.RowLemmas.{numbered}
 

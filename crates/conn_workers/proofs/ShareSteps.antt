@@ -17,9 +17,7 @@ use Rattle.segment_writer.specs.declared.framed.Framed.{Framed}
 use Rattle.segment_writer.proofs.InOrder.{sorted_append, sorted_keeps_all, sorted_twice}
 use Rattle.scenarios.specs.declared.proxies.Proxy.{Proxy}
 use Rattle.conn_workers.specs.Recordings.{RecordingView, recorded_delivery}
-use Rattle.conn_workers.specs.ReportTexts.{HoldLines, share_of, text_shares, texts_under}
-use Rattle.conn_workers.specs.RunSummaries.{seen_of_recording}
-use Rattle.conn_workers.specs.RowShares.{HoldRow, row_segments, row_text, row_share, ranges_of, row_shares}
+use Rattle.conn_workers.specs.RowShares.{HoldLines, share_of, text_shares, texts_under, seen_of_recording, HoldRow, row_segments, row_text, row_share, ranges_of, row_shares}
 use Rattle.conn_workers.proofs.RowLemmas.{get_or-numbered}
 
 -- ---- ranges

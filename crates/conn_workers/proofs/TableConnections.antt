@@ -1,5 +1,5 @@
--- The connections of a capture's table.
-use Rattle.std.proofs.Common.{◌≡◌, ◌<◌, ◌≤◌, ℕ, suc, ◌-◌, List, [], ◌∷◌, map, length, get_or, Option, Some, None, refl, ap, ◌∙◌, arith}
+-- The connections of a capture's table, and what table and recordings show of a capture.
+use Rattle.std.proofs.Common.{◌≡◌, ◌<◌, ◌≤◌, ℕ, suc, ◌-◌, List, [], ◌∷◌, map, length, get_or, Option, Some, None, refl, ap, ◌∙◌, arith, sym}
 use Rattle.std.specs.List.{AllByRecursion, enumerate_from, filter_map, cons_option}
 use Rattle.std.proofs.lemmas.List.{length-map, take_all, get_or-map, get_or_default}
 use Rattle.std.proofs.lemmas.List.Sums.{count_by-le-length, length-filter}
@@ -10,14 +10,18 @@ use Rattle.pcap_records.specs.CaptureView.{CaptureView, contents_of, packet_of}
 use Rattle.conn_table.specs.declared.conns.Conn.{Conn}
 use Rattle.conn_table.specs.SeenCapture.{SeenPacket, seen_packets, seen_capture}
 use Rattle.conn_table.specs.IndexedSegments.{IndexedSegment, indexed_segment, indexed_segments}
-use Rattle.conn_table.specs.Connections.{connections, beginnings, begins_in}
+use Rattle.conn_table.specs.Connections.{connections, beginnings, begins_in, Connection, unopened_count}
 use Rattle.conn_table.specs.IndexedConnections.{indexed_connections, indexed_connection_of, without_indices, IndexedConnectionsAgree}
 use Rattle.conn_table.specs.Partials.{packets_between, segments_between}
 use Rattle.conn_table.specs.Tables.{table_in, conn_in}
-use Rattle.conn_table.proofs.RangeSteps.{length-packets_between}
+use Rattle.conn_table.proofs.RangeSteps.{length-packets_between, length-seen_packets}
 use Rattle.reassembly.specs.RecordedView.{IsConnOf, IsConnectionOf, ConnectionsAreOfCapture, ConnsAreOfCapture}
-use Rattle.conn_workers.specs.DeliveryRows.{connections_of}
-use Rattle.conn_workers.specs.CaptureTables.{whole_table, whole_connections}
+use Rattle.conn_workers.specs.Recordings.{connections_of, whole_table, whole_connections, recording_in, recordings_of}
+use Rattle.std.proofs.lemmas.Simd.{map-map}
+use Rattle.conn_table.specs.ClassCounts.{counts_of}
+use Rattle.conn_workers.specs.RowShares.{seen_of_recording, seen_of_connection}
+
+-- ---- the connections of a capture's table
 
 pub conns_are : (c : CaptureView) → (whole_table c).conns ≡ map (conn_in c) (whole_connections c)
 unfolding table_in
@@ -107,3 +111,26 @@ module _ (c : CaptureView) (conns : List Conn) (shown : conns ≡ (whole_table c
   pub connection_of_capture : ConnectionsAreOfCapture → IsConnectionOf c here.item
   connection_of_capture are =
       rw (← here.read here.item) (all_at (IsConnectionOf c) (whole_connections c) i here.item (are c 0 (length c.records) 0) in_connections)
+
+-- ---- what a capture's table and recordings show, against what is seen of the capture
+
+pub counts_are : (c : CaptureView) → (whole_table c).counts ≡ counts_of (seen_packets 0 (contents_of c).packets)
+unfolding table_in
+counts_are c = ap counts_of (all_packets c)
+
+pub unopened_is : (c : CaptureView) → (whole_table c).unopened ≡ unopened_count (indexed_segments 0 (seen_packets 0 (contents_of c).packets))
+unfolding table_in
+unopened_is c = ap unopened_count (all_segments c)
+
+pub conns_are_seen : IndexedConnectionsAgree → (c : CaptureView) → map seen_of_recording (recordings_of c) ≡ map seen_of_connection (connections_of (seen_capture (contents_of c)))
+conns_are_seen agree c =
+    map-map seen_of_recording (recording_in c) (whole_connections c) ∙ sym (map-map seen_of_connection without_indices (whole_connections c))
+    ∙ ap (λ (cs : List Connection). map seen_of_connection cs) (connections_are agree c)
+
+pub packets_are_all : (c : CaptureView) → length c.records ≡ length (seen_capture (contents_of c)).packets
+packets_are_all c = sym (length-seen_packets 0 (contents_of c).packets ∙ length-map c.records (packet_of c.bytes))
+
+-- the table has a connection for each connection of the capture
+pub conns_are_all : IndexedConnectionsAgree → (c : CaptureView) → length (whole_table c).conns ≡ length (connections_of (seen_capture (contents_of c)))
+conns_are_all agree c =
+    ap length (conns_are c) ∙ length-map (whole_connections c) (conn_in c) ∙ sym (length-map (whole_connections c) without_indices) ∙ ap length (connections_are agree c)

@@ -1,22 +1,25 @@
--- Where each delivery stands, what it does not depend on, and which proxy a connection meets.
-use Rattle.std.specs.Prelude.{◌≡◌, ◌≢◌, ℕ, ◌+◌, ◌*◌, List, length, map, Option, Some, slice_get}
+-- What holds of deliveries: places, what they do not depend on, the proxy that is met, and what they are made of.
+use Rattle.std.specs.Prelude.{◌≡◌, ◌≢◌, ℕ, ◌+◌, ◌*◌, List, length, map, Option, Some, slice_get, take}
 use Rattle.std.specs.List.{AllByRecursion}
 use Rattle.std.specs.Option.{MatchOption}
 use Rattle.pcap_records.specs.CaptureView.{CaptureView, contents_of}
 use Rattle.conn_table.specs.SeenCapture.{SeenCapture, seen_capture}
-use Rattle.conn_table.specs.Connections.{Connection}
+use Rattle.conn_table.specs.ClassCounts.{counts_of}
+use Rattle.conn_table.specs.Connections.{Connection, unopened_count}
 use Rattle.conn_table.specs.IndexedConnections.{without_indices}
+use Rattle.conn_table.specs.IndexedSegments.{indexed_segments}
 use Rattle.frame_headers.specs.declared.peers.Peer.{Peer}
 use Rattle.reassembly.specs.Positions.{members_of, server_of}
-use Rattle.toxic_defs.specs.DeliveredLines.{MetProxy}
+use Rattle.toxic_defs.specs.DeliveredLines.{MetProxy, DeliveredConnection, delivered_connection}
 use Rattle.scenarios.specs.ProxyLaws.{IsFirstFor}
 use Rattle.scenarios.specs.declared.proxies.Proxy.{Proxy}
 use Rattle.conn_workers.specs.declared.deliveries.Delivery.{Delivery}
-use Rattle.conn_workers.specs.MetProxies.{met_proxy}
-use Rattle.conn_workers.specs.Contributions.{contribution_of}
-use Rattle.conn_workers.specs.DeliveryRows.{connections_of, delivery, delivery_of, deliveries}
-use Rattle.conn_workers.specs.CaptureTables.{whole_connections}
-use Rattle.conn_workers.specs.Recordings.{recordings_of, recorded_row, recorded_lines}
+use Rattle.conn_workers.specs.Recordings.{met_proxy, contribution_of, connections_of, delivery, delivery_of, deliveries, whole_table, whole_connections, recordings_of, recorded_row, recorded_lines, contribution_by}
+use Rattle.reassembly.specs.RecordedLines.{Line, RecordedConnection, recorded_connection}
+use Rattle.reassembly.specs.LineLaws.{IsNotBefore}
+use Rattle.toxic_defs.specs.Laws.{IsBeforeHorizon, DelaysFirst, values_of}
+
+-- ---- where each delivery stands, what it does not depend on, and which proxy a connection meets
 
 pub record Rehearsed : Type 0 where
   pub seen : SeenCapture
@@ -73,9 +76,16 @@ FirstProxyIsMet =
 
 -- ---- what recordings give
 
--- a capture's table has its connections, in order of number
-abbrev pub ConnectionsAreWhole : Type 0
-ConnectionsAreWhole = (c : CaptureView) → map without_indices (whole_connections c) ≡ connections_of (seen_capture (contents_of c))
+-- a capture's table shows what is seen of it: its connections, in order of number, and the counts; and there is a recording for each connection
+pub record IsWhole (c : CaptureView) : Type 0 where
+  pub connections : map without_indices (whole_connections c) ≡ connections_of (seen_capture (contents_of c))
+  pub conns : length (whole_table c).conns ≡ length (connections_of (seen_capture (contents_of c)))
+  pub recordings : length (recordings_of c) ≡ length (whole_table c).conns
+  pub unopened : (whole_table c).unopened ≡ unopened_count (indexed_segments 0 (seen_capture (contents_of c)).packets)
+  pub counts : (whole_table c).counts ≡ counts_of (seen_capture (contents_of c)).packets
+
+abbrev pub TablesAreWhole : Type 0
+TablesAreWhole = (c : CaptureView) → IsWhole c
 
 abbrev pub RowsAreContributed : Type 0
 RowsAreContributed =
@@ -88,3 +98,38 @@ LinesAreContributed =
     (seed : ℕ) (c : CaptureView) (s : ℕ × List Proxy)
     → recorded_lines seed s (recordings_of c)
     ≡ map (λ p. p.line) (map (contribution_of c.ticks seed s) (connections_of (seen_capture (contents_of c))))
+
+-- ---- what is delivered of each connection of a capture is made of what was recorded of it
+
+-- The bytes of a delivered line are the first that were recorded, none earlier. No end is before the opening, and all is before the horizon.
+pub record IsDeliveredOf (ticks opened : ℕ) (recorded delivered : Line) : Type 0 where
+  pub first : values_of delivered.bytes ≡ take (length delivered.bytes) (values_of recorded.bytes)
+  pub delayed : DelaysFirst delivered.bytes recorded.bytes
+  pub ends : IsNotBefore opened delivered.end
+  pub before_horizon : IsBeforeHorizon ticks delivered
+
+pub record IsMadeOf (ticks : ℕ) (r : RecordedConnection) (d : DeliveredConnection) : Type 0 where
+  pub up : IsDeliveredOf ticks r.opened r.up.line d.up
+  pub down : IsDeliveredOf ticks r.opened r.down.line d.down
+
+-- ---- deliveries
+
+-- the connections of a capture's table, in order of number
+abbrev pub table_connections : CaptureView → List Connection
+table_connections c = connections_of (seen_capture (contents_of c))
+
+abbrev pub delivered_of : ℕ → ℕ → ℕ × List Proxy → Connection → DeliveredConnection
+delivered_of ticks seed (number, proxies) c =
+    delivered_connection ticks seed number c.number (met_proxy (server_of c) proxies) (recorded_connection c)
+
+-- the delivery of a connection; what is delivered is made of what was recorded
+pub record IsOfRecorded (c : CaptureView) (seed : ℕ) (s : ℕ × List Proxy) (d : Delivery) : Type 0 where
+  pub connection : Connection
+  pub numbered : slice_get (table_connections c) d.conn ≡ Some connection
+  pub told : d ≡ delivery s.0 d.conn (contribution_by c.ticks connection (recorded_connection connection) (delivered_of c.ticks seed s connection))
+  pub made : IsMadeOf c.ticks (recorded_connection connection) (delivered_of c.ticks seed s connection)
+
+pub record IsOfScenario (c : CaptureView) (seed : ℕ) (scenarios : List (List Proxy)) (d : Delivery) : Type 0 where
+  pub proxies : List Proxy
+  pub numbered : slice_get scenarios d.scenario ≡ Some proxies
+  pub recorded : IsOfRecorded c seed (d.scenario, proxies) d

@@ -1,12 +1,5 @@
-pub mod MetProxies
-pub mod Contributions
-pub mod DeliveryRows
-pub mod CaptureTables
 pub mod Recordings
 pub mod RowShares
-pub mod RunSummaries
-pub mod ReportTexts
 pub mod DeliveryLaws
-pub mod RecordedDeliveries
 pub use Rattle.pcap_records.specs.Instants
 pub use Rattle.pcap_records.specs.CaptureView

@@ -2,14 +2,14 @@
 ghost use Rattle.std.specs.Prelude.{◌≡◌, ◌≤◌, length, IfOk};
 ghost use Rattle.pcap_records.specs.CaptureView.{contents_of};
 ghost use Rattle.conn_table.specs.SeenCapture.{seen_capture};
-ghost use Rattle.conn_workers.specs.DeliveryRows.{scenario_limit, connections_of, deliveries};
-ghost use Rattle.conn_workers.specs.CaptureTables.{whole_table};
+ghost use Rattle.conn_workers.specs.Recordings.{scenario_limit, connections_of, deliveries, whole_table};
 
 use crate::jobs::ContributionJobs;
 use crate::recordings::record;
 use conn_table::Table;
 use conn_table::laws::indexed_connections_agree;
-use job_matrix::{Gate, Phase, Plan, Values, work_all};
+use job_matrix::{Gate, Phase, Plan, work_all};
+use lists::Values;
 use pcap_records::Capture;
 use report::ReportText;
 use scenarios::Scenario;
@@ -20,9 +20,7 @@ use std::thread::Threads;
 /// What one connection contributes to one scenario.
 #[derive(Drop)]
 pub struct Delivery {
-    /// The number of the scenario.
     pub scenario: u32,
-    /// The number of the connection.
     pub conn: u32,
     /// The segments that are written of it, in order of key.
     pub segments: SegList,

@@ -1,10 +1,7 @@
 //! The jobs of workers.
 ghost use Rattle.std.specs.Prelude.{◌≡◌, ◌≤◌, ◌*◌, length};
-ghost use Rattle.conn_workers.specs.CaptureTables.{whole_table};
-ghost use Rattle.conn_workers.specs.DeliveryRows.{scenario_limit};
-ghost use Rattle.conn_workers.specs.Recordings.{recorded_deliveries, recordings_of};
-ghost use Rattle.conn_workers.specs.ReportTexts.{HoldLines, text_shares};
-ghost use Rattle.conn_workers.specs.RowShares.{HoldRow, row_shares};
+ghost use Rattle.conn_workers.specs.Recordings.{whole_table, scenario_limit, recorded_deliveries, recordings_of};
+ghost use Rattle.conn_workers.specs.RowShares.{HoldLines, text_shares, HoldRow, row_shares};
 
 use crate::deliveries::Delivery;
 use crate::recordings::{Recording, Recordings};
@@ -106,7 +103,7 @@ impl<'w, 'v, 'a> Work for ContributionJobs<'w, 'v, 'a> {
 
     ghost values = { λ w. recorded_deliveries w.seed w.recordings.now w.scenarios.now };
 
-    #[tactic(auto, using(crate::proofs::DeliverySteps::job_is))]
+    #[tactic(auto, using(crate::proofs::RowLemmas::job_is))]
     fn value(&self, job: u64) -> Result<Delivery, AllocError> {
         let count = self.recordings.len() as u64;
         let number = job / count;
@@ -211,7 +208,7 @@ impl<'c, 'w, 'a> Work for TextJobs<'c, 'w, 'a> {
 
     ghost use Rattle.std.specs.Prelude.{◌≡◌, ◌<◌, length, get_or, IfOk};
     ghost use Rattle.conn_workers.specs.Recordings.{recordings_of};
-    ghost use Rattle.conn_workers.specs.ReportTexts.{text_shares};
+    ghost use Rattle.conn_workers.specs.RowShares.{text_shares};
 
     ghost values = { λ w. text_shares w.ranges.size w.ranges.count w.seed w.scenarios.now (recordings_of w.lines.capture.now) };
 

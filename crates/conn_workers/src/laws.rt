@@ -4,10 +4,8 @@ ghost use Rattle.std.specs.List.{AllByRecursion};
 ghost use Rattle.reassembly.specs.RecordedLines.{recorded_connection};
 ghost use Rattle.toxic_defs.specs.Laws.{IsRecordedInTime};
 ghost use Rattle.scenarios.specs.ProxyLaws.{IsSound};
-ghost use Rattle.conn_workers.specs.DeliveryLaws.{ConnectionsAreWhole, RowsAreWhole, DeliveriesArePlaced, ContributionsAreIsolated, FirstProxyIsMet, LinesAreContributed, RowsAreContributed};
-ghost use Rattle.conn_workers.specs.DeliveryRows.{deliveries};
-ghost use Rattle.conn_workers.specs.RecordedDeliveries.{table_connections, IsOfRecorded, IsOfScenario};
-ghost use Rattle.conn_workers.specs.Recordings.{recordings_of, recorded_row};
+ghost use Rattle.conn_workers.specs.DeliveryLaws.{RowsAreWhole, DeliveriesArePlaced, ContributionsAreIsolated, FirstProxyIsMet, LinesAreContributed, RowsAreContributed, TablesAreWhole, table_connections, IsOfRecorded, IsOfScenario};
+ghost use Rattle.conn_workers.specs.Recordings.{deliveries, recordings_of, recorded_row};
 
 use conn_table::laws::indexed_connections_agree;
 use pcap_records::Capture;
@@ -30,20 +28,22 @@ pub fn contributions_are_isolated()
 {}
 
 /// A connection meets the first proxy whose upstream is its server, or none if no upstream is.
+#[tactic(auto, using(crate::proofs::Meetings::first_proxy_is_met))]
 pub fn first_proxy_is_met()
     ensures { FirstProxyIsMet }
 {
     first_is_met();
 }
 
-/// The table of a capture has the connections of the definition, in order of number.
-pub fn connections_are_whole()
-    ensures { ConnectionsAreWhole }
+/// The table of a capture has the connections of the definition, in order of number, as many unopened segments, and the same counts.
+pub fn tables_are_whole()
+    ensures { TablesAreWhole }
 {
     indexed_connections_agree();
 }
 
 /// The recordings of a capture give what its connections contribute to a scenario.
+#[tactic(auto, using(crate::proofs::RowLemmas::rows_are_contributed))]
 pub fn rows_are_contributed()
     ensures { RowsAreContributed }
 {
@@ -51,6 +51,7 @@ pub fn rows_are_contributed()
 }
 
 /// The recordings of a capture give the lines that its connections contribute.
+#[tactic(auto, using(crate::proofs::RowLemmas::lines_are_contributed))]
 pub fn lines_are_contributed()
     ensures { LinesAreContributed }
 {

@@ -1,8 +1,7 @@
 //! What each connection of a capture contributes to each scenario: its written segments and its line of the report.
 //!
-//! `deliver` gives it for all scenarios (`specs/Contributions.antt`, `specs/DeliveryRows.antt`), `deliver_row` for one, in shares
-//! (`specs/RowShares.antt`). `report_texts` gives only the lines (`specs/ReportTexts.antt`). The program calls the last two,
-//! and `run_summary`, which tells what a run has seen (`specs/RunSummaries.antt`).
+//! `deliver` gives it for all scenarios (`specs/Recordings.antt`), and `deliver_row` for one, in shares (`specs/RowShares.antt`).
+//! `report_texts` gives only the lines. The program calls the last two, and `run_summary`, which tells what a run has seen.
 #![tactic(auto)]
 
 mod crews;

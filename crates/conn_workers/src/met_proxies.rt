@@ -2,7 +2,7 @@
 ghost use Rattle.std.specs.Prelude.{◌≡◌, ◌≤◌, IfSome, length, option_map};
 ghost use Rattle.toxic_defs.specs.DeliveredLines.{met_view};
 ghost use Rattle.toxic_defs.specs.Limits.{most_toxics};
-ghost use Rattle.conn_workers.specs.MetProxies.{met_of, met_proxy};
+ghost use Rattle.conn_workers.specs.Recordings.{met_of, met_proxy};
 
 use frame_headers::Peer;
 use scenarios::{Proxy, Scenario};

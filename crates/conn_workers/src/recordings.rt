@@ -1,12 +1,12 @@
 //! What is recorded of each connection of a capture.
 ghost use Rattle.std.specs.Prelude.{◌≡◌, IfOk};
-ghost use Rattle.conn_workers.specs.CaptureTables.{whole_table};
-ghost use Rattle.conn_workers.specs.Recordings.{recordings_of};
+ghost use Rattle.conn_workers.specs.Recordings.{whole_table, recordings_of};
 
 use crate::deliveries::Delivery;
 use crate::jobs::LineJobs;
 use conn_table::{Conn, Table};
-use job_matrix::{Gate, Phase, Plan, Through, Values, work_all, work_alone};
+use job_matrix::{Gate, Phase, Plan, Through, work_all, work_alone};
+use lists::Values;
 use pcap_records::Capture;
 use reassembly::Recorded;
 use report::line;

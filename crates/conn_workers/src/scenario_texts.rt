@@ -1,10 +1,8 @@
 //! The lines of connections in the reports of scenarios. What is recorded of a connection is dropped once its lines are made, so that each
 //! worker holds only what is recorded of one range.
 ghost use Rattle.std.specs.Prelude.{◌≡◌, ◌≤◌, IfOk, length};
-ghost use Rattle.conn_workers.specs.CaptureTables.{whole_table};
-ghost use Rattle.conn_workers.specs.DeliveryRows.{scenario_limit};
-ghost use Rattle.conn_workers.specs.Recordings.{recordings_of};
-ghost use Rattle.conn_workers.specs.ReportTexts.{HoldLines, share_of};
+ghost use Rattle.conn_workers.specs.Recordings.{whole_table, scenario_limit, recordings_of};
+ghost use Rattle.conn_workers.specs.RowShares.{HoldLines, share_of};
 
 use crate::crews::Workers;
 use crate::jobs::TextJobs;
@@ -12,7 +10,8 @@ use crate::recordings::Recording;
 use crate::summaries::{SeenConn, seen_conns};
 use crate::under_scenario::UnderScenario;
 use conn_table::Table;
-use job_matrix::{Gate, Phase, Plan, Through, Values, work_all, work_alone};
+use job_matrix::{Gate, Phase, Plan, Through, work_all, work_alone};
+use lists::Values;
 use pcap_records::Capture;
 use report::ReportText;
 use scenarios::Scenario;

@@ -3,16 +3,15 @@ ghost use Rattle.std.specs.Prelude.{◌≡◌, IfOk, List, map};
 ghost use Rattle.std.specs.List.{flat_map};
 ghost use Rattle.pcap_records.specs.CaptureView.{contents_of};
 ghost use Rattle.conn_table.specs.SeenCapture.{seen_capture};
-ghost use Rattle.conn_workers.specs.CaptureTables.{whole_table};
-ghost use Rattle.conn_workers.specs.Recordings.{recordings_of};
-ghost use Rattle.conn_workers.specs.RunSummaries.{seen_of_recording, meets, met_count, run_summary};
+ghost use Rattle.conn_workers.specs.Recordings.{whole_table, recordings_of};
+ghost use Rattle.conn_workers.specs.RowShares.{seen_of_recording, meets, met_count, run_summary};
 
 use crate::recordings::Recording;
 use crate::scenario_texts::ShareTexts;
 use conn_table::laws::indexed_connections_agree;
 use conn_table::{Counts, Table};
 use frame_headers::Peer;
-use job_matrix::Values;
+use lists::Values;
 use pcap_records::Capture;
 use scenarios::Scenario;
 use std::alloc::{AllocError, Global};
@@ -20,7 +19,6 @@ use std::alloc::{AllocError, Global};
 /// A connection, as summaries show it.
 #[derive(Clone, Copy, Debug)]
 pub struct SeenConn {
-    /// The server's address and port.
     pub server: Peer,
     /// The number of the client's bytes after a gap or its FIN.
     pub up_lost: u64,

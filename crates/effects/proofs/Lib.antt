@@ -1,2 +1,3 @@
 mod Numbered
-mod Replayed
+mod MarkedCounts
+mod Replays

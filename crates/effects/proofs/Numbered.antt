@@ -1,11 +1,9 @@
 -- What a list's numbered elements give, and together up to a place.
 use Rattle.std.proofs.Common.{◌≡◌, ◌<◌, ◌≤◌, ℕ, ◌+◌, List, ◌++◌, length, take, get_or, map, sym, ap, ap₂, ◌∙◌, arith}
 use Rattle.std.specs.List.{enumerate_from, flat_map, range_with_len}
-use Rattle.std.proofs.lemmas.List.{flat_map_more, length-map, take_all, take_more}
+use Rattle.std.proofs.lemmas.List.{flat_map_more, take_all, take_more}
 use Rattle.std.proofs.lemmas.List.Folds.{flat_map-map}
 use Rattle.std.proofs.lemmas.List.FromFn.{length-enumerate_from, get_or-enumerate_from, map-range_with_len_more}
-use Rattle.toxic_defs.specs.Toxics.{RatedKind}
-use Rattle.effects.specs.Marks.{switched}
 
 module _ {X A : Type 0} (f : ℕ × X → List A) (xs : List X) (first : List A) where
   -- after what came first, what the elements before a place give
@@ -31,6 +29,3 @@ number_more f first n =
     ∙ flat_map_more (λ ys. ys) first (map f (range_with_len 0 n)) (f n)
     ∙ ap (λ ys. first ++ flat_map (λ zs. zs) ys) (sym (map-range_with_len_more f 0 n n (let e : 0 + n ≡ n = omega arith in e)))
     ∙ ap (λ ys. first ++ ys) (flat_map-map (λ ys. ys) f (range_with_len 0 (n + 1)))
-
-pub length_switched : (first t : ℕ) (toxics : List RatedKind) → length (switched first t toxics) ≡ length toxics
-length_switched first t toxics = length-map (enumerate_from 0 toxics) _ ∙ length-enumerate_from 0 toxics

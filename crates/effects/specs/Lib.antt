@@ -1,3 +1,2 @@
-pub mod Marks
-pub mod Replays
 pub mod EffectCounts
+pub mod Marks

@@ -1,76 +1,46 @@
--- What one connection tells of the toxics of the proxy that it meets: which it draws, and which have an effect on it.
-use Rattle.std.specs.Prelude.{ℕ, ◌+◌, ◌==◌, List, [], ◌++◌, length, map, bytes_eq, Bool, not, if◌then◌else◌, Option, Some, None}
-use Rattle.std.specs.List.{enumerate_from, flat_map, range_with_len}
-use Rattle.frame_headers.specs.declared.peers.Peer.{Peer}
-use Rattle.conn_table.specs.Connections.{Connection}
-use Rattle.reassembly.specs.Positions.{server_of}
-use Rattle.toxic_defs.specs.Toxics.{RatedKind, applies}
+-- How the code counts: each connection that meets a proxy has a mark for each of the proxy's toxics.
+use Rattle.std.specs.Prelude.{ℕ, Bool, false, List, [], ◌∷◌, length, map, get_or, count_by, Some}
+use Rattle.std.specs.List.{flat_map, range_with_len}
+use Rattle.toxic_defs.specs.Toxics.{RatedKind}
 use Rattle.toxic_defs.specs.DeliveredLines.{MetProxy}
-use Rattle.segment_writer.specs.declared.framed.Framed.{Framed}
-use Rattle.scenarios.specs.declared.proxies.Proxy.{Proxy}
-use Rattle.conn_workers.specs.Contributions.{contribution}
-use Rattle.conn_workers.specs.MetProxies.{met_proxy}
-use Rattle.effects.specs.declared.marks.Marks.{Marks}
+use Rattle.conn_workers.specs.declared.deliveries.Delivery.{Delivery}
+use Rattle.conn_workers.specs.Recordings.{Contribution, RecordingView, delivered_by, recorded_delivery_by}
+use Rattle.effects.specs.declared.marks.Mark.{Mark}
+use Rattle.effects.specs.EffectCounts.{PlacedToxic, Replayed, draws, has_effect, toxics_in, toxics_of}
 
--- its line of the report, up to its line feed, and then its records, each with its length
-abbrev pub written_bytes : List ℕ → List Framed → List ℕ
-written_bytes line segments = line ++ flat_map (λ x. x.bytes) segments
+abbrev pub contribution_in : Delivery → Contribution
+contribution_in d = record { segments = d.segments; line = d.line }
 
--- A connection: its number, its server, and what outputs have of it by the seed, the number of the scenario and the proxy that it meets.
-pub record Replayed : Type 0 where
-  pub number : ℕ
-  pub server : Peer
-  pub written : ℕ → ℕ → MetProxy → List ℕ
-
-abbrev pub replayed : ℕ → Connection → Replayed
-replayed ticks c = record {
-  number = c.number;
-  server = server_of c;
-  written = λ seed s met. let p = contribution ticks c s seed (Some met) in written_bytes p.line p.segments;
+-- a connection by what is recorded of it
+abbrev pub replay : RecordingView → Replayed
+replay r = record {
+  number = r.conn.number;
+  server = r.conn.server;
+  contribution = λ seed s met. contribution_in (recorded_delivery_by s r (delivered_by seed s (Some met) r));
 }
 
--- ---- toxics that are drawn
+abbrev pub mark_of : ℕ → ℕ → MetProxy → Replayed → PlacedToxic → Mark
+mark_of seed s met c x = record { drawn = draws seed s c x; has_effect = has_effect seed s met c x.direction x.place }
 
--- connection c draws the toxic with a number in direction d
-abbrev pub is_drawn : ℕ → ℕ → ℕ → ℕ → ℕ × RatedKind → Bool
-is_drawn seed s c d (t, toxic) = applies toxic (record { seed = seed; s = s; c = c; d = d; t = t })
+abbrev pub marks_in : ℕ → ℕ → MetProxy → Replayed → ℕ → List RatedKind → List Mark
+marks_in seed s met c direction toxics = map (mark_of seed s met c) (toxics_in direction toxics)
 
-abbrev pub drawn_in : ℕ → ℕ → ℕ → ℕ → List RatedKind → List Bool
-drawn_in seed s c d toxics = map (is_drawn seed s c d) (enumerate_from 0 toxics)
+abbrev pub marks_of : ℕ → ℕ → MetProxy → Replayed → List Mark
+marks_of seed s met c = map (mark_of seed s met c) (toxics_of met)
 
-abbrev pub drawn : ℕ → ℕ → ℕ → MetProxy → List Bool
-drawn seed s c met = drawn_in seed s c 0 met.up ++ drawn_in seed s c 1 met.down
+-- ---- what marks tell of the toxic with a number among those of the proxy
 
--- ---- toxics that have an effect
+abbrev pub no_mark : Mark
+no_mark = record { drawn = false; has_effect = false }
 
--- it applies to no connection
-abbrev pub switched_off : RatedKind → RatedKind
-switched_off toxic = record { kind = toxic.kind; ppm = 0 }
+abbrev pub draws_at : ℕ → List Mark → Bool
+draws_at t marks = (get_or marks t no_mark).drawn
 
--- toxics of which the first has the number `first`, with toxic t switched off: it keeps its place, and so all other draws stay
-abbrev pub switched : ℕ → ℕ → List RatedKind → List RatedKind
-switched first t toxics = map (λ x. if first + x.0 == t then switched_off x.1 else x.1) (enumerate_from 0 toxics)
+abbrev pub has_effect_at : ℕ → List Mark → Bool
+has_effect_at t marks = (get_or marks t no_mark).has_effect
 
--- the toxics of a proxy are numbered through, those of what the client sends first
-abbrev pub without : ℕ → MetProxy → MetProxy
-without t met = record {
-  number = met.number;
-  enabled = met.enabled;
-  up = switched 0 t met.up;
-  down = switched (length met.up) t met.down;
-}
+abbrev pub toxic_marks : List (List Mark) → ℕ → List ℕ
+toxic_marks all t = count_by (draws_at t) all ∷ count_by (has_effect_at t) all ∷ []
 
-abbrev pub has_effect : ℕ → ℕ → Replayed → MetProxy → ℕ → Bool
-has_effect seed s c met t = not (bytes_eq (c.written seed s met) (c.written seed s (without t met)))
-
-abbrev pub effective : ℕ → ℕ → Replayed → MetProxy → List Bool
-effective seed s c met = map (has_effect seed s c met) (range_with_len 0 (length met.up + length met.down))
-
--- ---- both
-
-abbrev pub marks_by : ℕ → ℕ → Replayed → Option MetProxy → Marks
-marks_by seed s c None = record { proxy = None; drawn = []; effective = [] }
-marks_by seed s c (Some met) = record { proxy = Some met.number; drawn = drawn seed s c.number met; effective = effective seed s c met }
-
-unfoldable pub marks_of : ℕ → ℕ × List Proxy → Replayed → Marks
-marks_of seed (s, proxies) c = marks_by seed s c (met_proxy c.server proxies)
+abbrev pub proxy_marks : List (List Mark) → ℕ → List ℕ
+proxy_marks all toxics = length all ∷ flat_map (toxic_marks all) (range_with_len 0 toxics)

@@ -1,6 +1,6 @@
 //! What each toxic does: how many connections of a capture meet its proxy, draw it, and are not the same without it.
 //!
-//! `specs/Marks.antt` says what one connection tells of the toxics of a proxy, and `specs/EffectCounts.antt` counts what all of them tell.
+//! `specs/EffectCounts.antt` says what is counted, and `specs/Marks.antt` how the code counts it: by marks of connections.
 #![tactic(auto)]
 
 mod counts;

@@ -1,23 +1,24 @@
-//! What one connection tells of the toxics of the proxy that it meets.
-ghost use Rattle.std.specs.Prelude.{◌≡◌, ◌≤◌, IfOk, length};
+//! What connections that meet a proxy tell of its toxics.
+ghost use Rattle.std.specs.Prelude.{◌≡◌, ◌≤◌, IfOk, length, zip};
+ghost use Rattle.std.specs.List.{list_all};
+ghost use Rattle.toxic_defs.specs.DeliveredLines.{met_view};
 ghost use Rattle.toxic_defs.specs.Limits.{most_toxics};
-ghost use Rattle.effects.specs.Marks.{switched, switched_off, written_bytes};
+ghost use Rattle.effects.specs.EffectCounts.{all_but, is_same, same_record, same_records, switched_off, toxics_at, with_toxics};
+ghost use Rattle.effects.specs.Marks.{contribution_in};
 
-use conn_workers::{Delivery, Recording, met_proxy};
-use lists::Values;
+use conn_workers::{Delivery, Recording};
 use scenarios::Scenario;
+use segment_writer::Framed;
 use std::alloc::{AllocError, Global};
 use toxic_defs::{Key, MetProxy, Toxic, applies};
 
-/// What a connection tells of the toxics of a scenario.
-#[derive(Debug, Drop)]
-pub(crate) struct Marks {
-    /// The number of the proxy that it meets, if it meets one.
-    pub(crate) proxy: Option<u32>,
-    /// For each toxic of that proxy, those of what the client sends first, whether the connection draws it.
-    pub(crate) drawn: Values<bool>,
-    /// For each of these toxics whether the connection is another one without it.
-    pub(crate) effective: Values<bool>,
+/// What a connection tells of a toxic of the proxy that it meets.
+#[derive(Clone, Copy, Debug)]
+pub(crate) struct Mark {
+    /// The connection draws the toxic.
+    pub(crate) drawn: bool,
+    /// Without the toxic its line of the report is another one, or its records are.
+    pub(crate) has_effect: bool,
 }
 
 /// A scenario with its number, and the seed of the random words.
@@ -33,145 +34,104 @@ impl<'s> Under<'s> {
     ghost use Rattle.std.specs.Prelude.{◌≡◌, ◌≤◌, ◌++◌, IfOk, OnOk, length};
     ghost use Rattle.toxic_defs.specs.DeliveredLines.{met_view};
     ghost use Rattle.toxic_defs.specs.Limits.{most_toxics};
-    ghost use Rattle.effects.specs.Marks.{drawn, drawn_in, effective, has_effect, marks_of, without};
-    ghost use Rattle.effects.specs.Replays.{replay};
+    ghost use Rattle.effects.specs.EffectCounts.{has_effect, toxics_at};
+    ghost use Rattle.effects.specs.Marks.{contribution_in, marks_in, marks_of, replay};
 
-    /// What a connection tells of the scenario.
-    #[tactic(auto, unfolding(crate::specs::Marks::marks_of))]
-    pub(crate) fn marks(&self, recording: &Recording<'_, '_>) -> Result<Marks, AllocError>
-        ensures { IfOk result (λ m. m ≡ marks_of self.now.seed (self.now.number, self.now.scenario.now) (replay recording.now)) }
-    {
-        let Some(met) = met_proxy(self.scenario, recording.conn().server) else {
-            return Ok(Marks {
-                proxy: None,
-                drawn: Values::of(Vec::new(self.alloc)),
-                effective: Values::of(Vec::new(self.alloc)),
-            });
-        };
-        let drawn = self.drawn(recording.conn().number, &met)?;
-        let effective = self.effective(recording, met)?;
-        Ok(Marks {
-            proxy: Some(met.number),
-            drawn: Values::of(drawn),
-            effective: Values::of(effective),
-        })
-    }
-
-    fn drawn(&self, conn: u32, met: &MetProxy<'_>) -> Result<Vec<bool>, AllocError>
-        requires few_up { length met.now.up.now ≤ most_toxics }
-        requires few_down { length met.now.down.now ≤ most_toxics }
-        ensures { IfOk result (λ v. v.items ≡ drawn self.now.seed self.now.number conn (met_view met.now)) }
-    {
-        let mut drawn = Vec::new(self.alloc);
-        self.put_drawn(conn, 0, met.up, &mut drawn)?;
-        self.put_drawn(conn, 1, met.down, &mut drawn)?;
-        Ok(drawn)
-    }
-
-    // Appends which toxics of a direction a connection draws.
-    fn put_drawn(
+    /// A mark for each toxic of a proxy that a connection meets, those of what the client sends first.
+    pub(crate) fn marks(
         &self,
-        conn: u32,
-        direction: u8,
-        toxics: &[Toxic],
-        drawn: &mut Vec<bool>,
-    ) -> Result<(), AllocError>
-        requires { length toxics.now ≤ most_toxics }
-        ensures { OnOk result (drawn.new.items ≡ drawn.old.items ++ drawn_in self.now.seed self.now.number conn direction toxics.now) }
+        recording: &Recording<'_, '_>,
+        met: MetProxy<'_>,
+    ) -> Result<Vec<Mark>, AllocError>
+        requires few_up { length met.up.now ≤ most_toxics }
+        requires few_down { length met.down.now ≤ most_toxics }
+        ensures { IfOk result (λ v. v.items ≡ marks_of self.now.seed self.now.number (met_view met.entry) (replay recording.now)) }
     {
-        for (t, toxic) in toxics.iter().enumerate() {
+        let whole = recording.delivery(self.alloc, Some(met), self.seed, self.number)?;
+        let mut marks = Vec::with_capacity(self.alloc, met.up.len() + met.down.len())?;
+        self.put_marks(recording, &whole, met, 0, &mut marks)?;
+        self.put_marks(recording, &whole, met, 1, &mut marks)?;
+        Ok(marks)
+    }
+
+    // Appends the marks of a direction's toxics. The connection contributes `whole`.
+    fn put_marks(
+        &self,
+        recording: &Recording<'_, '_>,
+        whole: &Delivery,
+        met: MetProxy<'_>,
+        direction: u8,
+        marks: &mut Vec<Mark>,
+    ) -> Result<(), AllocError>
+        requires few_up { length met.up.now ≤ most_toxics }
+        requires few_down { length met.down.now ≤ most_toxics }
+        requires whole { contribution_in whole.now ≡ (replay recording.now).contribution self.now.seed self.now.number (met_view met) }
+        ensures { OnOk result (marks.new.items ≡ marks.old.items ++ marks_in self.now.seed self.now.number (met_view met.entry) (replay recording.now)
+            direction (toxics_at direction (met_view met.entry))) }
+    {
+        let toxics = toxics_at(met, direction);
+        for (place, toxic) in toxics.iter().enumerate() {
             let key = Key {
                 seed: self.seed,
                 s: self.number,
-                c: conn,
+                c: recording.conn().number,
                 d: direction,
-                t: t as u8,
+                t: place as u8,
             };
-            drawn.push(applies(toxic, key))?;
+            let drawn = applies(toxic, key);
+            let has_effect = self.has_effect(recording, whole, met, direction, place)?;
+            marks.push(Mark { drawn, has_effect })?;
         }
         Ok(())
     }
 
-    fn effective(
-        &self,
-        recording: &Recording<'_, '_>,
-        met: MetProxy<'_>,
-    ) -> Result<Vec<bool>, AllocError>
-        requires few_up { length met.up.now ≤ most_toxics }
-        requires few_down { length met.down.now ≤ most_toxics }
-        ensures { IfOk result (λ v. v.items ≡ effective self.now.seed self.now.number (replay recording.now) (met_view met.entry)) }
-    {
-        let whole = self.written(recording, met)?;
-        let toxics = met.up.len() + met.down.len();
-        let mut effective = Vec::with_capacity(self.alloc, toxics)?;
-        for t in 0..toxics {
-            effective.push(self.has_effect(recording, &whole, met, t)?)?;
-        }
-        Ok(effective)
-    }
-
-    // Whether a connection of which outputs have `whole` is another one without toxic `t` of the proxy.
+    // Whether a connection that contributes `whole` contributes something else without the toxic of a direction at a place.
+    #[tactic(auto, using(crate::proofs::MarkedCounts::length_all_but))]
     fn has_effect(
         &self,
         recording: &Recording<'_, '_>,
-        whole: &[u8],
+        whole: &Delivery,
         met: MetProxy<'_>,
-        t: usize,
+        direction: u8,
+        place: usize,
     ) -> Result<bool, AllocError>
         requires few_up { length met.up.now ≤ most_toxics }
         requires few_down { length met.down.now ≤ most_toxics }
-        requires whole { whole.now ≡ (replay recording.now).written self.now.seed self.now.number (met_view met) }
-        ensures { IfOk result (λ b. b ≡ has_effect self.now.seed self.now.number (replay recording.now) (met_view met.entry) t) }
+        requires whole { contribution_in whole.now ≡ (replay recording.now).contribution self.now.seed self.now.number (met_view met) }
+        ensures { IfOk result (λ b. b ≡ has_effect self.now.seed self.now.number (met_view met.entry) (replay recording.now) direction place) }
     {
-        let rest = self.written_without(recording, met, t)?;
-        Ok(whole != rest.as_slice())
-    }
-
-    // What outputs have of a connection that meets this proxy.
-    fn written(
-        &self,
-        recording: &Recording<'_, '_>,
-        met: MetProxy<'_>,
-    ) -> Result<Vec<u8>, AllocError>
-        requires few_up { length met.up.now ≤ most_toxics }
-        requires few_down { length met.down.now ≤ most_toxics }
-        ensures { IfOk result (λ v. v.items ≡ (replay recording.now).written self.now.seed self.now.number (met_view met.entry)) }
-    {
-        let delivery = recording.delivery(self.alloc, Some(met), self.seed, self.number)?;
-        written_bytes(self.alloc, &delivery)
-    }
-
-    // The same without toxic `t` of the proxy.
-    #[tactic(auto, using(crate::proofs::Numbered::length_switched))]
-    fn written_without(
-        &self,
-        recording: &Recording<'_, '_>,
-        met: MetProxy<'_>,
-        t: usize,
-    ) -> Result<Vec<u8>, AllocError>
-        requires few_up { length met.up.now ≤ most_toxics }
-        requires few_down { length met.down.now ≤ most_toxics }
-        ensures { IfOk result (λ v. v.items ≡ (replay recording.now).written self.now.seed self.now.number (without t (met_view met.entry))) }
-    {
-        let up = switched(self.alloc, 0, t, met.up)?;
-        let down = switched(self.alloc, met.up.len(), t, met.down)?;
-        let rest = MetProxy {
-            up: &up,
-            down: &down,
-            ..met
-        };
-        self.written(recording, rest)
+        let others = all_but(self.alloc, place, toxics_at(met, direction))?;
+        let without = with_toxics(met, direction, &others);
+        let rest = recording.delivery(self.alloc, Some(without), self.seed, self.number)?;
+        Ok(!is_same(whole, &rest))
     }
 }
 
-fn written_bytes(alloc: Global, delivery: &Delivery) -> Result<Vec<u8>, AllocError>
-    ensures { IfOk result (λ v. v.items ≡ written_bytes delivery.now.line delivery.now.segments) }
+fn toxics_at(met: MetProxy<'_>, direction: u8) -> &[Toxic]
+    requires few_up { length met.up.now ≤ most_toxics }
+    requires few_down { length met.down.now ≤ most_toxics }
+    ensures toxics { result.now ≡ toxics_at direction (met_view met.entry) }
+    ensures few { length result.now ≤ most_toxics }
 {
-    let mut bytes = delivery.line.as_slice().to_vec(alloc)?;
-    for segment in delivery.segments.as_slice() {
-        bytes.extend_from_slice(segment.bytes.as_slice())?;
+    if direction == 0 { met.up } else { met.down }
+}
+
+fn with_toxics<'t>(met: MetProxy<'t>, direction: u8, toxics: &'t [Toxic]) -> MetProxy<'t>
+    requires few_up { length met.up.now ≤ most_toxics }
+    requires few_down { length met.down.now ≤ most_toxics }
+    requires few { length toxics.now ≤ most_toxics }
+    ensures met { met_view result ≡ with_toxics direction toxics.now (met_view met.entry) }
+    ensures few_up { length result.up.now ≤ most_toxics }
+    ensures few_down { length result.down.now ≤ most_toxics }
+{
+    if direction == 0 {
+        MetProxy { up: toxics, ..met }
+    } else {
+        MetProxy {
+            down: toxics,
+            ..met
+        }
     }
-    Ok(bytes)
 }
 
 fn switched_off(toxic: &Toxic) -> Toxic
@@ -180,21 +140,41 @@ fn switched_off(toxic: &Toxic) -> Toxic
     Toxic::new(toxic.kind(), 0).unwrap()
 }
 
-// The toxics of a direction, of which the first has this number, with toxic `t` switched off.
-fn switched(
-    alloc: Global,
-    first: usize,
-    t: usize,
-    toxics: &[Toxic],
-) -> Result<Vec<Toxic>, AllocError>
+// Toxics of which the one at a place is switched off.
+fn all_but(alloc: Global, place: usize, toxics: &[Toxic]) -> Result<Vec<Toxic>, AllocError>
     requires { length toxics.now ≤ most_toxics }
-    ensures { IfOk result (λ v. v.items ≡ switched first t toxics.now) }
+    ensures { IfOk result (λ v. v.items ≡ all_but place toxics.now) }
 {
     let numbered = toxics.iter().enumerate();
-    let changed = numbered.map(|(n, toxic)| if t >= first && n == t - first {
+    let changed = numbered.map(|(n, toxic)| if n == place {
         switched_off(toxic)
     } else {
         *toxic
     });
     changed.collect(alloc)
+}
+
+fn is_same(whole: &Delivery, rest: &Delivery) -> bool
+    ensures { result ≡ is_same (contribution_in whole.now) (contribution_in rest.now) }
+{
+    whole.line.as_slice() == rest.line.as_slice()
+        && same_records(whole.segments.as_slice(), rest.segments.as_slice())
+}
+
+fn same_records(xs: &[Framed], ys: &[Framed]) -> bool
+    ensures { result ≡ same_records xs.now ys.now }
+{
+    xs.len() == ys.len() && same_in_turn(xs, ys)
+}
+
+fn same_in_turn(xs: &[Framed], ys: &[Framed]) -> bool
+    ensures { result ≡ list_all same_record (zip xs.now ys.now) }
+{
+    xs.iter().zip(ys).all(|(x, y)| same_record(x, y))
+}
+
+fn same_record(x: &Framed, y: &Framed) -> bool
+    ensures { result ≡ same_record (x.now, y.now) }
+{
+    x.bytes.as_slice() == y.bytes.as_slice()
 }

@@ -2,12 +2,12 @@
 ghost use Rattle.std.specs.Prelude.{◌≡◌, ◌≤◌, IfOk, length, map};
 ghost use Rattle.pcap_records.specs.CaptureView.{contents_of};
 ghost use Rattle.conn_table.specs.SeenCapture.{seen_capture};
-ghost use Rattle.conn_workers.specs.DeliveryRows.{scenario_limit};
+ghost use Rattle.conn_workers.specs.Recordings.{scenario_limit};
 ghost use Rattle.effects.specs.EffectCounts.{effect_counts, effects_in};
-ghost use Rattle.effects.specs.Replays.{replay};
+ghost use Rattle.effects.specs.Marks.{replay};
 
 use crate::marks::Under;
-use conn_workers::laws::connections_are_whole;
+use conn_workers::laws::tables_are_whole;
 use conn_workers::{Recording, record_alone};
 use lists::Values;
 use pcap_records::Capture;
@@ -16,7 +16,7 @@ use scenarios::Scenario;
 use std::alloc::{AllocError, Global};
 
 /// What toxics do, scenario by scenario and proxy by proxy. Of each proxy the numbers are how many connections meet it, and for each of its
-/// toxics, those of what the client sends first, how many draw it and on how many it has an effect: their line of the report or their
+/// toxics, those of what the client sends first, how many of these draw it and on how many it has an effect: their line of the report or their
 /// written records are others with this toxic switched off. It is made by this thread.
 pub fn effect_counts(
     alloc: Global,
@@ -27,7 +27,7 @@ pub fn effect_counts(
     requires { length scenarios.now ≤ scenario_limit }
     ensures { IfOk result (λ v. v ≡ effects_in (seen_capture (contents_of capture.now)) scenarios.now seed) }
 {
-    connections_are_whole();
+    tables_are_whole();
     let table = table_alone(alloc, capture)?;
     let recordings = record_alone(alloc, capture, &table)?;
     let counts = counts_of(alloc, recordings.as_slice(), scenarios, seed)?;

@@ -4,13 +4,11 @@ use Rattle.std.specs.List.{enumerate_from}
 use Rattle.std.proofs.lemmas.Grind.{flat_map-append}
 use Rattle.pcap_records.specs.CaptureView.{CaptureView, contents_of}
 use Rattle.conn_table.specs.SeenCapture.{seen_capture}
-use Rattle.conn_table.specs.IndexedConnections.{without_indices, IndexedConnectionsAgree}
+use Rattle.conn_table.specs.IndexedConnections.{without_indices}
 use Rattle.scenarios.specs.declared.proxies.Proxy.{Proxy}
-use Rattle.conn_workers.specs.CaptureTables.{whole_connections}
-use Rattle.conn_workers.specs.DeliveryRows.{rows}
-use Rattle.conn_workers.specs.Recordings.{recording_in, recordings_of}
+use Rattle.conn_workers.specs.Recordings.{whole_connections, rows, recording_in, recordings_of}
+use Rattle.conn_workers.specs.DeliveryLaws.{TablesAreWhole}
 use Rattle.conn_workers.proofs.RowLemmas.{rows_alike}
-use Rattle.conn_workers.proofs.TableConnections.{connections_are}
 use Rattle.laid_lines.specs.FlatLines.{FlatLines, flat_lines, lines_in, together}
 use Rattle.laid_lines.specs.RecordedLines.{after, lines_by}
 
@@ -40,9 +38,9 @@ pub laid_some : (laid more : FlatLines) (some rest : List FlatLines) → more �
 laid_some laid more some rest is = ap (λ l. after l (together rest)) is ∙ after_assoc laid (together some) (together rest) ∙ ap (after laid) (sym (together_both some rest))
 
 -- of recordings, or of the connections of the definition
-pub recorded_lines_are : IndexedConnectionsAgree → (c : CaptureView) (scenarios : List (List Proxy)) (seed : ℕ)
+pub recorded_lines_are : TablesAreWhole → (c : CaptureView) (scenarios : List (List Proxy)) (seed : ℕ)
     → together (rows (lines_by seed) (enumerate_from 0 scenarios) (recordings_of c)) ≡ flat_lines (seen_capture (contents_of c)) scenarios seed
 unfolding flat_lines
-recorded_lines_are agree c scenarios seed =
+recorded_lines_are whole c scenarios seed =
     ap together (rows_alike (lines_by seed) (lines_in c.ticks seed) (recording_in c) without_indices (λ s x. refl) (enumerate_from 0 scenarios) (whole_connections c)
-    ∙ ap (rows (lines_in c.ticks seed) (enumerate_from 0 scenarios)) (connections_are agree c))
+    ∙ ap (rows (lines_in c.ticks seed) (enumerate_from 0 scenarios)) (whole c).connections)

@@ -1,3 +1,2 @@
-mod LineChunks
 mod LineParts
 mod LaidRows

@@ -10,8 +10,8 @@ use Rattle.reassembly.specs.RecordedLines.{LineByte, Line, End, live, fin, close
 use Rattle.toxic_defs.specs.DeliveredLines.{DeliveredConnection}
 use Rattle.toxic_defs.specs.Laws.{values_of}
 use Rattle.scenarios.specs.declared.proxies.Proxy.{Proxy}
-use Rattle.conn_workers.specs.DeliveryRows.{connections_of, rows}
-use Rattle.conn_workers.specs.RecordedDeliveries.{delivered_of}
+use Rattle.conn_workers.specs.Recordings.{connections_of, rows}
+use Rattle.conn_workers.specs.DeliveryLaws.{delivered_of}
 use Rattle.laid_lines.specs.declared.laid.ToxicapChunk.{ToxicapChunk}
 use Rattle.laid_lines.specs.declared.laid.ToxicapDirection.{ToxicapDirection}
 use Rattle.laid_lines.specs.declared.laid.ToxicapConnection.{ToxicapConnection}

@@ -2,12 +2,12 @@
 ghost use Rattle.std.specs.Prelude.{◌≡◌, ◌≤◌, IfOk, length};
 ghost use Rattle.pcap_records.specs.CaptureView.{contents_of};
 ghost use Rattle.conn_table.specs.SeenCapture.{seen_capture};
-ghost use Rattle.conn_workers.specs.DeliveryRows.{scenario_limit};
+ghost use Rattle.conn_workers.specs.Recordings.{scenario_limit};
 ghost use Rattle.laid_lines.specs.FlatLines.{flat_lines};
 ghost use Rattle.laid_lines.specs.RecordedLines.{flat_view};
 
 use crate::laid::LaidLines;
-use conn_table::laws::indexed_connections_agree;
+use conn_workers::laws::tables_are_whole;
 use conn_workers::{UnderScenario, record_alone};
 use pcap_records::Capture;
 use range_workers::table_alone;
@@ -24,7 +24,7 @@ pub fn delivered_lines<'a>(
     requires { length scenarios.now ≤ scenario_limit }
     ensures { IfOk result (λ laid. flat_view laid ≡ flat_lines (seen_capture (contents_of capture.now)) scenarios.now seed) }
 {
-    indexed_connections_agree();
+    tables_are_whole();
     let table = table_alone(alloc, capture)?;
     let recorded = record_alone(alloc, capture, &table)?;
     let recordings = recorded.as_slice();

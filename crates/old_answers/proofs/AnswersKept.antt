@@ -18,7 +18,7 @@ use Rattle.run_files.specs.declared.error.RunFault.{RunFault}
 use Rattle.run_files.specs.declared.error.RunFault.TheVariants.{TooManyScenarios}
 use Rattle.run_files.specs.declared.outputs.Output.{Output}
 use Rattle.scenarios.specs.declared.proxies.Proxy.{Proxy}
-use Rattle.conn_workers.specs.Contributions.{Contribution, contribution_of}
+use Rattle.conn_workers.specs.Recordings.{Contribution, contribution_of}
 use Rattle.toxicap.specs.Rehearsal.{contributions, scenario_output, outputs_of, scenario_limit, seen_file, answer_to, answer}
 use Rattle.old_answers.specs.WritingBefore.{file_header_before}
 use Rattle.old_answers.specs.ConnectionsBefore.{seen_capture_before, connections_before, unopened_count_before}

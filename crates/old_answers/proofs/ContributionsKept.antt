@@ -12,8 +12,7 @@ use Rattle.segment_writer.specs.WrittenSegments.{WrittenConnection, SentSegment,
 use Rattle.segment_writer.specs.WrittenConnections.{written_connection}
 use Rattle.report.specs.ReportText.{connection_text}
 use Rattle.scenarios.specs.declared.proxies.Proxy.{Proxy}
-use Rattle.conn_workers.specs.MetProxies.{met_proxy}
-use Rattle.conn_workers.specs.Contributions.{Contribution, contribution, contribution_of}
+use Rattle.conn_workers.specs.Recordings.{met_proxy, Contribution, contribution, contribution_of}
 use Rattle.old_answers.specs.SegmentsBefore.{headers_before, frame_bytes_before, framed_by_client_before, framed_by_server_before, opening_turn_before, up_turn_before, written_segments_before, written_connection_before}
 use Rattle.old_answers.specs.ReportsBefore.{connection_text_before}
 use Rattle.old_answers.specs.AnswersBefore.{contribution_before, contribution_of_before}

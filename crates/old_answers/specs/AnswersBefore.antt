@@ -16,8 +16,7 @@ use Rattle.toxic_defs.specs.DeliveredLines.{MetProxy, DeliveredConnection, deliv
 use Rattle.segment_writer.specs.declared.framed.Framed.{Framed}
 use Rattle.segment_writer.specs.WrittenSegments.{sorted_by_key}
 use Rattle.scenarios.specs.declared.proxies.Proxy.{Proxy}
-use Rattle.conn_workers.specs.MetProxies.{met_proxy}
-use Rattle.conn_workers.specs.Contributions.{Contribution}
+use Rattle.conn_workers.specs.Recordings.{met_proxy, Contribution}
 use Rattle.report.specs.ReportText.{report_text}
 use Rattle.old_answers.specs.ReadingBefore.{reading_before}
 use Rattle.old_answers.specs.WritingBefore.{file_header_before}

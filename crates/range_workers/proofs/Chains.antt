@@ -5,8 +5,7 @@ use Rattle.std.proofs.lemmas.List.Elements.{All-nil, All-cons}
 use Rattle.pcap_records.specs.CaptureView.{CaptureView}
 use Rattle.conn_table.specs.Partials.{partial_in, JoinsAgree}
 use Rattle.range_workers.specs.declared.ranges.Range.{Range}
-use Rattle.range_workers.specs.Ranges.{range_in, AreRanges, IsWithin, AreWithin}
-use Rattle.range_workers.specs.RangePartials.{partials_of, AreAdjacentFrom, AreAdjacent, joined_to, joined_all}
+use Rattle.range_workers.specs.Ranges.{range_in, AreRanges, IsWithin, AreWithin, partials_of, AreAdjacentFrom, AreAdjacent, joined_to, joined_all}
 
 range_before : (c : CaptureView) (cut from : ℕ) (r : Range) (rs : List Range)
     → r ≡ range_in c from (from + cut) → from + cut < length c.records → AreRanges c cut (from + cut) rs → AreRanges c cut from (r ∷ rs)

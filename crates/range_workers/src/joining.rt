@@ -1,6 +1,6 @@
 //! The join of the partials of ranges that follow one another.
 ghost use Rattle.std.specs.Prelude.{◌≡◌, IfOk};
-ghost use Rattle.range_workers.specs.RangePartials.{AreAdjacent, joined_all};
+ghost use Rattle.range_workers.specs.Ranges.{AreAdjacent, joined_all};
 
 use conn_table::Partial;
 use std::alloc::AllocError;

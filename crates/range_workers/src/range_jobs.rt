@@ -20,7 +20,7 @@ impl<'w, 'a> Work for RangeJobs<'w, 'a> {
     type Out = Partial;
 
     ghost use Rattle.std.specs.Prelude.{◌≡◌, ◌<◌, length, get_or, IfOk};
-    ghost use Rattle.range_workers.specs.RangePartials.{partials_of};
+    ghost use Rattle.range_workers.specs.Ranges.{partials_of};
 
     ghost values = { λ w. partials_of w.capture.now w.ranges.now };
 

@@ -1,9 +1,6 @@
 mod MappedLists
-mod ZeroedConnections
 mod ZeroedLines
 mod ZeroedToxics
 mod ZeroedReports
-mod AlikeLists
 mod FrameHeads
-mod UsualHeads
 mod SeenHeads

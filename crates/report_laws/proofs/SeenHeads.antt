@@ -7,10 +7,9 @@ use Rattle.pcap_records.specs.Reading.{Packet, Contents}
 use Rattle.pcap_records.specs.Heads.{head_of, heads_of}
 use Rattle.frame_headers.specs.Frame.{seen_frame}
 use Rattle.conn_table.specs.SeenCapture.{SeenPacket, seen_packet, seen_packets, seen_capture}
-use Rattle.conn_workers.specs.RunSummaries.{run_summary}
-use Rattle.report_laws.specs.ZeroedPayloads.{zeroed_frame, zeroed_packet, zeroed_seen}
-use Rattle.report_laws.specs.SeenHeads.{ReportSeesHeads, SummarySeesHeads}
-use Rattle.report_laws.proofs.UsualHeads.{frame_sees_head}
+use Rattle.conn_workers.specs.RowShares.{run_summary}
+use Rattle.report_laws.specs.SeenHeads.{zeroed_frame, zeroed_packet, zeroed_seen, ReportSeesHeads, SummarySeesHeads}
+use Rattle.report_laws.proofs.FrameHeads.{frame_sees_head}
 use Rattle.report_laws.proofs.ZeroedReports.{report_sees_lengths, summary_zeroed}
 
 frames_same : (p q : Packet) → head_of p ≡ head_of q → zeroed_frame (seen_frame p.bytes) ≡ zeroed_frame (seen_frame q.bytes)

@@ -17,14 +17,12 @@ use Rattle.reassembly.specs.RecordedLines.{LineByte, Line, RecordedSide, Recorde
 use Rattle.toxic_defs.specs.DeliveredLines.{MetProxy, DeliveredConnection, delivered_connection}
 use Rattle.report.specs.ReportText.{peers_text, counts_text, counts_text_of, connections_text, longest_delay, end_word, side_text, connection_text, report_text}
 use Rattle.scenarios.specs.declared.proxies.Proxy.{Proxy}
-use Rattle.conn_workers.specs.MetProxies.{met_proxy}
-use Rattle.conn_workers.specs.Contributions.{contribution, contribution_of}
-use Rattle.conn_workers.specs.RunSummaries.{seen_of_connection, met_count, run_summary}
+use Rattle.conn_workers.specs.Recordings.{met_proxy, contribution, contribution_of}
+use Rattle.conn_workers.specs.RowShares.{seen_of_connection, met_count, run_summary}
 use Rattle.conn_workers.specs.declared.summaries.SeenConn.{SeenConn}
-use Rattle.report_laws.specs.ZeroedPayloads.{zeroed_packet, zeroed_seen, report_of, ReportSeesLengths}
+use Rattle.report_laws.specs.SeenHeads.{zeroed_packet, zeroed_seen, report_of, ReportSeesLengths}
 use Rattle.report_laws.proofs.MappedLists.{zip_mapped}
-use Rattle.report_laws.proofs.ZeroedConnections.{zeroed_connection, indexed_zeroed, connections_zeroed, unopened_same}
-use Rattle.report_laws.proofs.ZeroedLines.{zeroed_byte, zeroed_line, zeroed_side, zeroed_recorded, connection_recorded}
+use Rattle.report_laws.proofs.ZeroedLines.{zeroed_connection, indexed_zeroed, connections_zeroed, unopened_same, zeroed_byte, zeroed_line, zeroed_side, zeroed_recorded, connection_recorded}
 use Rattle.report_laws.proofs.ZeroedToxics.{zeroed_delivered, delivered_zeroed}
 
 -- ---- counts

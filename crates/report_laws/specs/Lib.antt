@@ -1,2 +1,1 @@
-pub mod ZeroedPayloads
 pub mod SeenHeads

@@ -1,6 +1,6 @@
 //! What two connections contribute to scenarios, by workers, with values from outside.
 ghost use Rattle.std.specs.Prelude.{◌≡◌, ◌≤◌, length, IfOk};
-ghost use Rattle.conn_workers.specs.CaptureTables.{whole_table};
+ghost use Rattle.conn_workers.specs.Recordings.{whole_table};
 
 use super::checks::check;
 use conn_table::laws::tables_agree;

@@ -3,9 +3,8 @@
 ghost use Rattle.std.specs.Prelude.{◌≡◌, ◌≤◌, length, IfOk};
 ghost use Rattle.std.specs.List.{AllByRecursion};
 ghost use Rattle.toxic_defs.specs.Laws.{IsRecordedInTime};
-ghost use Rattle.conn_workers.specs.CaptureTables.{whole_table};
-ghost use Rattle.conn_workers.specs.Recordings.{recordings_of};
-ghost use Rattle.conn_workers.specs.RecordedDeliveries.{IsOfScenario};
+ghost use Rattle.conn_workers.specs.Recordings.{whole_table, recordings_of};
+ghost use Rattle.conn_workers.specs.DeliveryLaws.{IsOfScenario};
 
 use super::checks::check;
 use super::deliveries::{DELAYED, scenario, segments, whole_table};

@@ -1,8 +1,7 @@
 use Rattle.std.proofs.Common.{◌≡◌, Some, sym, ap, ◌∙◌}
 use Rattle.conn_table.specs.IndexedSegments.{indexed_segments}
-use Rattle.conn_workers.specs.Contributions.{contribution_of}
-use Rattle.conn_workers.specs.DeliveryRows.{delivery}
-use Rattle.conn_workers.proofs.Isolated.{own_number, deliveries_are_placed, same_connection, contribution_is}
+use Rattle.conn_workers.specs.Recordings.{contribution_of, delivery}
+use Rattle.conn_workers.proofs.MadeOfRecorded.{own_number, deliveries_are_placed, same_connection, contribution_is}
 use Rattle.conn_workers.proofs.laws.contributions_are_isolated.Goals as goal
 
 pub returns : goal.returns

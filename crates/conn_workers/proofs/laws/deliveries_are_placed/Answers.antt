@@ -1,4 +1,4 @@
-use Rattle.conn_workers.proofs.Isolated.{rows_are_whole, deliveries_are_placed}
+use Rattle.conn_workers.proofs.MadeOfRecorded.{rows_are_whole, deliveries_are_placed}
 use Rattle.conn_workers.proofs.laws.deliveries_are_placed.Goals as goal
 
 pub returns : goal.returns

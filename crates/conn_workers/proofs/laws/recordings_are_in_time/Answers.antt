@@ -1,4 +1,4 @@
-use Rattle.conn_workers.proofs.RecordedInTime.{connections_in_time, recordings_in_time}
+use Rattle.conn_workers.proofs.MadeOfRecorded.{connections_in_time, recordings_in_time}
 use Rattle.conn_workers.proofs.laws.recordings_are_in_time.Goals as goal
 
 pub returns : goal.returns

@@ -1,7 +1,7 @@
 use Rattle.std.proofs.Common.{ℕ, List, sym, subst}
 use Rattle.std.specs.List.{AllByRecursion}
 use Rattle.scenarios.specs.declared.proxies.Proxy.{Proxy}
-use Rattle.conn_workers.specs.RecordedDeliveries.{IsOfRecorded}
+use Rattle.conn_workers.specs.DeliveryLaws.{IsOfRecorded}
 use Rattle.conn_workers.proofs.MadeOfRecorded.{Theorems, row_is_recorded}
 use Rattle.conn_workers.proofs.laws.rows_are_recorded.Goals as goal
 

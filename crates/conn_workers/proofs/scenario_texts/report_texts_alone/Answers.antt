@@ -1,7 +1,7 @@
 use Rattle.std.proofs.Common.{sym, subst}
 use Rattle.std.proofs.lemmas.Result.{IfOk-weaker}
 use Rattle.conn_workers.specs.Recordings.{recordings_of}
-use Rattle.conn_workers.specs.ReportTexts.{HoldLines}
+use Rattle.conn_workers.specs.RowShares.{HoldLines}
 use Rattle.conn_workers.proofs.scenario_texts.report_texts_alone.Goals as goal
 
 pub returns : goal.returns

@@ -1,8 +1,7 @@
 use Rattle.std.proofs.Common.{ℕ, ◌≡◌, ◌<◌, ◌≤◌, List, [], ◌∷◌, ◌++◌, get_or, length, ap, ap₂, sym, ◌∙◌, arith}
 use Rattle.std.proofs.lemmas.List.{take_all, take_more}
 use Rattle.scenarios.specs.declared.proxies.Proxy.{Proxy}
-use Rattle.conn_workers.specs.ReportTexts.{texts_under}
-use Rattle.conn_workers.specs.RowShares.{row_text}
+use Rattle.conn_workers.specs.RowShares.{texts_under, row_text}
 use Rattle.conn_workers.proofs.ShareSteps.{length-texts_under, text_at}
 use Rattle.conn_workers.proofs.scenario_texts.share_of.Goals as goal
 

@@ -1,5 +1,5 @@
 use Rattle.std.proofs.Common.{◌≡◌, take}
-use Rattle.conn_workers.specs.ReportTexts.{texts_under}
+use Rattle.conn_workers.specs.RowShares.{texts_under}
 use Rattle.conn_workers.proofs.scenario_texts.share_of.Given as goal
 
 abbrev pub invariant-loop-number : goal.invariant-loop-number

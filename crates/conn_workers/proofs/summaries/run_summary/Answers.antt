@@ -1,8 +1,8 @@
 use Rattle.std.proofs.Common.{List, length, map, ap, ◌∙◌}
 use Rattle.conn_table.specs.Tables.{TableView}
-use Rattle.conn_workers.specs.RunSummaries.{met_count, run_summary}
+use Rattle.conn_workers.specs.RowShares.{met_count, run_summary}
 use Rattle.conn_workers.specs.declared.summaries.SeenConn.{SeenConn}
-use Rattle.conn_workers.proofs.SeenTables.{conns_are_seen, counts_are, packets_are_all, unopened_is}
+use Rattle.conn_workers.proofs.TableConnections.{conns_are_seen, counts_are, packets_are_all, unopened_is}
 use Rattle.conn_workers.proofs.summaries.run_summary.Goals as goal
 
 pub returns : goal.returns

@@ -1,5 +1,5 @@
 use Rattle.std.proofs.Common.{◌≡◌, map, take}
-use Rattle.conn_workers.specs.RunSummaries.{seen_of_recording}
+use Rattle.conn_workers.specs.RowShares.{seen_of_recording}
 use Rattle.conn_workers.proofs.summaries.seen_conns.Given as goal
 
 abbrev pub invariant-loop-recording : goal.invariant-loop-recording

@@ -1,6 +1,6 @@
 use Rattle.std.proofs.Common.{[], map, ◌∙◌, arith}
 use Rattle.effects.specs.EffectCounts.{effect_counts, scenario_counts}
-use Rattle.effects.specs.Replays.{replay}
+use Rattle.effects.specs.Marks.{replay}
 use Rattle.effects.proofs.Numbered.{all_of, one_more}
 use Rattle.effects.proofs.toxic_effects.counts_of.Goals as goal
 

@@ -1,6 +1,6 @@
 use Rattle.std.proofs.Common.{◌≡◌, [], map}
 use Rattle.effects.specs.EffectCounts.{scenario_counts}
-use Rattle.effects.specs.Replays.{replay}
+use Rattle.effects.specs.Marks.{replay}
 use Rattle.effects.proofs.Numbered.{so_far}
 use Rattle.effects.proofs.toxic_effects.counts_of.Given as goal
 

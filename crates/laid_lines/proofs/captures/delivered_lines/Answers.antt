@@ -1,7 +1,7 @@
 use Rattle.std.proofs.Common.{◌∷◌, ◌+◌, ap, drop, map, sym, ◌∙◌, arith}
 use Rattle.std.specs.List.{enumerate_from}
 use Rattle.std.proofs.lemmas.List.{drop_all, drop_more}
-use Rattle.conn_workers.specs.DeliveryRows.{rows}
+use Rattle.conn_workers.specs.Recordings.{rows}
 use Rattle.laid_lines.specs.FlatLines.{FlatLines, together}
 use Rattle.laid_lines.specs.RecordedLines.{after, flat_view, lines_by}
 use Rattle.laid_lines.proofs.LaidRows.{after_none, laid_some, recorded_lines_are}
@@ -28,4 +28,4 @@ returns c =
     let none = drop_all n c.args.scenarios.now (omega (arith, c.loop-number-test.false)) in
     sym (after_none laid) ∙ ap (λ ss. after laid (together (rows (lines_by c.args.seed) (enumerate_from n ss) recordings))) (sym none) ∙ c.loop-number.invariant
     ∙ ap (λ rs. together (rows (lines_by c.args.seed) (enumerate_from 0 c.args.scenarios.now) rs)) (c.as_slice-recordings.ensures ∙ c.in_ok-recorded.ensures)
-    ∙ recorded_lines_are c.indexed_connections_agree.ensures c.args.capture.now c.args.scenarios.now c.args.seed
+    ∙ recorded_lines_are c.tables_are_whole.ensures c.args.capture.now c.args.scenarios.now c.args.seed

@@ -1,6 +1,6 @@
 use Rattle.std.proofs.Common.{◌≡◌, drop}
 use Rattle.std.specs.List.{enumerate_from}
-use Rattle.conn_workers.specs.DeliveryRows.{rows}
+use Rattle.conn_workers.specs.Recordings.{rows}
 use Rattle.laid_lines.specs.FlatLines.{together}
 use Rattle.laid_lines.specs.RecordedLines.{after, flat_view, lines_by}
 use Rattle.laid_lines.proofs.captures.delivered_lines.Given as goal

@@ -1,8 +1,7 @@
 use Rattle.std.proofs.Common.{length, sym, ap, ◌∙◌, subst, arith}
 use Rattle.std.proofs.lemmas.Result.{IfOk-weaker}
 use Rattle.conn_table.specs.Tables.{finished}
-use Rattle.range_workers.specs.Ranges.{AreWithin}
-use Rattle.range_workers.specs.RangePartials.{AreAdjacent, partials_of, joined_all}
+use Rattle.range_workers.specs.Ranges.{AreWithin, AreAdjacent, partials_of, joined_all}
 use Rattle.range_workers.proofs.Chains.{are_within, are_adjacent, whole_joined}
 use Rattle.range_workers.proofs.capture_table.table.Goals as goal
 

@@ -1,6 +1,6 @@
 use Rattle.std.proofs.Common.{◌≡◌, length}
 use Rattle.std.specs.Vec.Iter.{into_iter_items, into_iter_len}
-use Rattle.range_workers.specs.RangePartials.{AreAdjacentFrom, joined_to, joined_all}
+use Rattle.range_workers.specs.Ranges.{AreAdjacentFrom, joined_to, joined_all}
 use Rattle.range_workers.proofs.joining.join_all.Given as goal
 
 abbrev pub invariant-loop-partial : goal.invariant-loop-partial

@@ -3,8 +3,7 @@ use Rattle.std.proofs.lemmas.List.{get_or-map}
 use Rattle.conn_table.specs.declared.conns.Conn.{Conn}
 use Rattle.reassembly.specs.RecordedLines.{RecordedConnection}
 use Rattle.reassembly.specs.RecordedView.{IsConnOf, recorded_view}
-use Rattle.conn_workers.specs.CaptureTables.{whole_connections}
-use Rattle.conn_workers.specs.Recordings.{RecordingView, recording_in}
+use Rattle.conn_workers.specs.Recordings.{whole_connections, RecordingView, recording_in}
 use Rattle.conn_workers.proofs.TableConnections.{here, in_connections, conn_here, is_of_capture, connection_of_capture}
 use Rattle.conn_workers.proofs.jobs.LineJobsWork.value.Goals as goal
 

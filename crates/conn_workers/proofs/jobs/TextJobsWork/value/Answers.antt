@@ -1,7 +1,7 @@
 use Rattle.std.proofs.Common.{ap, ◌∙◌}
 use Rattle.std.proofs.lemmas.Result.{IfOk-weaker}
 use Rattle.conn_workers.specs.Recordings.{recordings_of}
-use Rattle.conn_workers.specs.ReportTexts.{share_of}
+use Rattle.conn_workers.specs.RowShares.{share_of}
 use Rattle.conn_workers.proofs.ShareSteps.{by_range}
 use Rattle.conn_workers.proofs.jobs.TextJobsWork.value.Goals as goal
 

@@ -5,8 +5,7 @@ use Rattle.std.proofs.lemmas.List.{drop_all}
 use Rattle.pcap_records.specs.Instants.{ticks_of}
 use Rattle.reassembly.specs.LineView.{bytes_of_parts}
 use Rattle.laid_lines.specs.FlatLines.{chunk, chunks_of, end_code, end_time, nanoseconds_since}
-use Rattle.laid_lines.proofs.LineChunks.{chunks_from}
-use Rattle.laid_lines.proofs.LineParts.{chunks_laid, chunks_left, count_left, values_left}
+use Rattle.laid_lines.proofs.LineParts.{chunks_from, chunks_laid, chunks_left, count_left, values_left}
 use Rattle.laid_lines.proofs.laid.LaidLines.add_line.Goals as goal
 
 pub loop-part-preserved : goal.loop-part-preserved

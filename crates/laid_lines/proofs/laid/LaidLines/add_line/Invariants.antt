@@ -4,7 +4,7 @@ use Rattle.pcap_records.specs.Instants.{ticks_of}
 use Rattle.reassembly.specs.LineView.{bytes_of_parts}
 use Rattle.toxic_defs.specs.Laws.{values_of}
 use Rattle.laid_lines.specs.FlatLines.{chunk, nanoseconds_since}
-use Rattle.laid_lines.proofs.LineChunks.{chunks_from}
+use Rattle.laid_lines.proofs.LineParts.{chunks_from}
 use Rattle.laid_lines.proofs.laid.LaidLines.add_line.Given as goal
 
 -- what is laid, and what is left of the line, is all of it

@@ -1,18 +1,16 @@
 -- A text is a dump of the bytes that hex decodes of it without its blanks.
-use Rattle.std.proofs.Common.{◌≡◌, ◌+◌, ◌*◌, Bool, true, false, not, ◌||◌, ℕ, List, [], ◌∷◌, ◌++◌, length, filter, slice_index, Option, Some, None, Result, Ok, Err, refl, sym, ap, inl, inr, zero, suc, ◌∙◌, arith, length-append}
+use Rattle.std.proofs.Common.{◌≡◌, ◌+◌, ◌*◌, Bool, true, false, not, ◌||◌, ℕ, List, [], ◌∷◌, ◌++◌, length, filter, slice_index, Option, Some, None, Result, Ok}
+use Rattle.std.proofs.Common.{Err, refl, sym, ap, inl, inr, zero, suc, ◌∙◌, arith, length-append}
 use Rattle.std.specs.Prelude.{cond, set, replicate, slice_get, ◌<◌, ◌≢◌, ◌⊎◌, count_by, position, MatchResult}
-use Rattle.std.specs.List.{list_all, position_from}
-use Rattle.std.specs.Result.{result_unwrap_or}
 use Rattle.std.proofs.lemmas.Bool.{and_parts, cases_eq}
 use Rattle.std.proofs.lemmas.List.{append-nil}
 use Rattle.std.proofs.lemmas.List.Sums.{sum_by-cons, list_all-from_AllPass, AllPass-from_list_all}
 use Rattle.std.proofs.lemmas.Iterator.Adapters.{position_from-zero}
 use Rattle.lists.proofs.Lists.{slice_get-set_other, slice_get-set_same}
-use Rattle.hex.specs.Hex.{decode_of, decode_pairs, digit_or_error, hex_digit_value, is_hex_digit, pair_value, ◌>>=◌}
-use Rattle.hex.specs.declared.error.FromHexError.{FromHexError}
 use Rattle.hex.proofs.HexLemmas.{decode_of-digits, decode_of-even, decode_of-ok, decode_pairs-ok}
 use Rattle.hex.proofs.Pairs.{decode_pairs-ok_pair, decode_start, prepend, prepend-cons_byte}
-use Rattle.run_files.specs.Dumps.{BeginsWith, HoldsPairs, is_blank, is_foreign, dumped_bytes, dump_reading, dump_reading_from, without_blanks}
+use Rattle.run_files.specs.{list_all, position_from, result_unwrap_or, decode_of, decode_pairs, digit_or_error, hex_digit_value, is_hex_digit, pair_value}
+use Rattle.run_files.specs.{◌>>=◌, FromHexError, BeginsWith, HoldsPairs, is_blank, is_foreign, dumped_bytes, dump_reading, dump_reading_from, without_blanks}
 
 blank_digit : (b : ℕ) → is_blank b ≡ true → is_hex_digit b ≡ false
 blank_digit b h = grind arith

@@ -1,10 +1,5 @@
 mod DumpLemmas
-mod DraftNames
-mod OutputNames
-mod LoadedFiles
-mod LoadedParts
-mod PrintedPart
-mod SeenParts
 mod LoadedTexts
+mod LoadedParts
 pub mod StoredFiles
-mod KeptFiles
+mod SeenParts

@@ -1,17 +1,14 @@
 -- How the blocks of a file are gathered, and that they are its bytes.
-use Rattle.std.proofs.Common.{◌≡◌, ◌<◌, ◌≤◌, ◌+◌, ◌*◌, ◌++◌, ℕ, zero, suc, Bool, true, false, cond, nat_lt, List, [], ◌∷◌, length, length-append, map, take, drop, get_or, All, Option, Some, None, Ok, Err, IfSome, refl, sym, ap, ap₂, subst, ◌∙◌, arith, append-nil, append_assoc}
-use Rattle.std.specs.Option.{ForSome}
+use Rattle.std.proofs.Common.{◌≡◌, ◌<◌, ◌≤◌, ◌+◌, ◌*◌, ◌++◌, ℕ, zero, suc, Bool, true, false, cond, nat_lt, List, [], ◌∷◌, length, length-append, map, take}
+use Rattle.std.proofs.Common.{drop, get_or, All, Option, Some, None, Ok, Err, IfSome, refl, sym, ap, ap₂, subst, ◌∙◌, arith, append-nil, append_assoc}
 use Rattle.std.proofs.lemmas.Bool.{le-ltb, ltb-true}
 use Rattle.std.proofs.lemmas.Bool.Decides.{nat_tests}
 use Rattle.std.proofs.lemmas.List.{drop-drop, drop_all, drop_more, length-drop, length-take, take_all, take-append-drop}
 use Rattle.std.proofs.lemmas.List.Elements.{All-tail}
 use Rattle.std.proofs.lemmas.List.FromFn.{get_or-map-range_with_len, length-map-range_with_len}
-use Rattle.disks.specs.FileContents.{FileContents, file_len}
-use Rattle.pcap_records.specs.Blocks.{block_len, block_limit, bytes_until_short}
-use Rattle.pcap_records.specs.Reading.{capture_limit}
+use Rattle.run_files.specs.{ForSome, FileContents, file_len, block_len, block_limit, bytes_until_short, capture_limit, BlockView, block_view, blocks_of}
+use Rattle.run_files.specs.{part_at, HasBlocks, text_of_file}
 use Rattle.run_files.specs.declared.error.RunFault.{RunFault}
-use Rattle.run_files.specs.LoadedBlocks.{BlockView, block_view, blocks_of, part_at, HasBlocks}
-use Rattle.run_files.specs.Paths.{text_of_file}
 
 module _ {A : Type 0} (bytes_of : A → List ℕ) where
   pub parts_fit : (parts : List A) → All (λ part. length (bytes_of part) ≤ block_len) parts → length (bytes_until_short (map bytes_of parts)) ≤ length parts * block_len

@@ -1,20 +1,95 @@
--- How the text of an input was loaded and seen.
-use Rattle.std.proofs.Common.{◌≡◌, ◌<◌, ◌≤◌, ℕ, ◌+◌, ◌++◌, true, false, nat_lt, List, [], length, take, Option, Some, None, Result, Ok, Err, IfErr, IfOk, IfSome, refl, sym, ap, subst, ◌∙◌, arith}
+-- How the bytes of a file come, read after read, and how the text of an input was loaded and seen.
+use Rattle.std.proofs.Common.{◌≡◌, ◌<◌, ◌≤◌, ℕ, ◌+◌, ◌-◌, Bool, true, false, ◌&&◌, nat_lt, List, ◌++◌, length, take, drop, Option, Some, None, Ok, Result}
+use Rattle.std.proofs.Common.{IfSome, refl, sym, ap, ap₂, subst, ◌∙◌, arith, length-append, length-drop, take-add, [], Err, IfErr, IfOk}
 use Rattle.std.proofs.lemmas.Bool.{le-ltb, lt-ltb}
-use Rattle.std.proofs.lemmas.List.{take_all}
-use Rattle.std.specs.Io.KnownBytes.{Consumes, IsAtEnd}
-use Rattle.disks.specs.declared.disk.DiskFault.{DiskFault}
-use Rattle.disks.specs.FileContents.{FileContents, Gives, Reads, file_len}
-use Rattle.lists.specs.Agreement.{AgreesUnlessMemory}
-use Rattle.pcap_records.specs.Reading.{capture_limit}
+use Rattle.std.proofs.lemmas.List.{drop-drop, length-take-le, take-take, take_all}
+use Rattle.run_files.specs.{Consumes, IsAtEnd, FileContents, Gives, IsFileAt, file_len, Reads, History, held_now, AgreesUnlessMemory, block_len, DiskFault}
+use Rattle.run_files.specs.{capture_limit, HaveCome, text_at, text_of_file, IsOfFile, run_refusal, part_at, CameOf, FailedOf, IsPast, Loads, LoadsInput}
+use Rattle.run_files.specs.{StopsLoading}
 use Rattle.run_files.specs.declared.error.RunFault.{RunFault}
 use Rattle.run_files.specs.declared.error.RunFault.TheVariants.{CaptureTooLong, Memory, ReadFailed}
-use Rattle.run_files.specs.Loading.{CameOf, FailedAfter, IsPast, Loads}
-use Rattle.run_files.specs.Paths.{HaveCome, IsOfFile, text_of_file}
-use Rattle.run_files.specs.RunFault.{run_refusal}
-use Rattle.run_files.specs.SeenTexts.{LoadsInput}
-use Rattle.run_files.specs.Streams.{StopsLoading}
-use Rattle.run_files.proofs.LoadedFiles.{whole_step}
+
+-- ---- the bytes of a file, read after read
+
+-- some first bytes of a file from a start on, and the first ones that one read gives after them
+one_read : (f : FileContents) (start : ℕ) (part room more : List ℕ) (n own : ℕ) → own ≤ n → part ≡ take (length part) (drop start f.bytes)
+    → length part ≤ length f.bytes - start → Gives f (start + length part) room n → more ≡ part ++ take own room
+    → (more ≡ take (length more) (drop start f.bytes)) × (length more ≤ length f.bytes - start) × (length more ≡ length part + own)
+one_read f start part room more n own fewer first within gives all =
+    let rest : List ℕ = drop start f.bytes in
+    let came : take own room ≡ take own (drop (length part) rest) =
+    sym (take-take own n room fewer) ∙ ap (take own) gives.bytes ∙ take-take own n (drop (start + length part) f.bytes) fewer
+    ∙ ap (take own) (sym (drop-drop (length part) start f.bytes)) in
+    let many : length (take own room) ≡ own =
+    ap length came ∙ length-take-le own (drop (length part) rest) (omega (arith, fewer, gives.within, length-drop (length part) rest, length-drop start f.bytes)) in
+    let longer : length more ≡ length part + own = ap length all ∙ length-append part (take own room) ∙ ap (λ k. length part + k) many in (
+      all ∙ ap₂ (λ (xs ys : List ℕ). xs ++ ys) first came ∙ sym (take-add (length part) own rest) ∙ ap (λ k. take k rest) (sym longer),
+      omega (arith, longer, fewer, gives.within, within),
+      longer,
+    )
+
+-- a read at the place of the bytes that came
+pub whole_step : (contents : Option FileContents) (bytes room more : List ℕ) (place next n : ℕ) → IfSome contents (λ f. HaveCome f bytes place)
+    → IfSome contents (λ f. Gives f place room n) → IfSome contents (λ f. next ≡ place + n) → more ≡ bytes ++ take n room → IfSome contents (λ f. HaveCome f more next)
+whole_step None bytes room more place next n first gives moved all = tt
+whole_step (Some f) bytes room more place next n first gives moved all =
+    let here : place ≡ 0 + length bytes = omega (arith, first.2) in
+    let read = one_read f 0 bytes room more n n (omega arith) first.0 (omega (arith, first.1)) (subst (λ k. Gives f k room n) here gives) all in
+    (read.0, omega (arith, read.1), omega (arith, moved, first.2, read.2))
+
+-- the first bytes of a read, after those that came of a part
+pub part_step : (contents : Option FileContents) (start : ℕ) (part room more : List ℕ) (n own : ℕ) → own ≤ n
+    → IfSome contents (λ f. (part ≡ take (length part) (drop start f.bytes)) × (length part ≤ length f.bytes - start))
+    → IfSome contents (λ f. Gives f (start + length part) room n) → more ≡ part ++ take own room
+    → IfSome contents (λ f. (more ≡ take (length more) (drop start f.bytes)) × (length more ≤ length f.bytes - start))
+part_step None start part room more n own fewer first gives all = tt
+part_step (Some f) start part room more n own fewer first gives all =
+    let read = one_read f start part room more n own fewer first.0 first.1 gives all in (read.0, read.1)
+
+-- ---- a part that is loaded
+
+none_right : (a b : Bool) → b ≡ false → (a && b) ≡ false
+none_right true b is = is
+none_right false b is = refl
+
+-- it has all bytes that a block has of its own
+pub full_part : (contents : Option FileContents) (start : ℕ) (part : List ℕ) → length part ≡ block_len
+    → IfSome contents (λ f. (part ≡ take (length part) (drop start f.bytes)) × (length part ≤ length f.bytes - start)) → IfSome contents (λ f. part_at f start ≡ Ok part)
+full_part None start part full first = tt
+full_part (Some f) start part full first =
+    let enough : nat_lt (length f.bytes) (start + block_len) ≡ false = le-ltb (length f.bytes) (start + block_len) (omega (arith, full, first.1)) in
+    let same : take block_len (drop start f.bytes) ≡ part = sym (first.0 ∙ ap (λ k. take k (drop start f.bytes)) full) in
+    rw (enough, same) refl
+
+pub last_part : (contents : Option FileContents) (start : ℕ) (part room : List ℕ) → length part ≤ block_len → 0 < length room → IfSome contents (λ f. start < file_len f)
+    → IfSome contents (λ f. (part ≡ take (length part) (drop start f.bytes)) × (length part ≤ length f.bytes - start))
+    → IfSome contents (λ f. Gives f (start + length part) room 0) → IfSome contents (λ f. part_at f start ≡ Ok part)
+last_part None start part room short some within first gives = tt
+last_part (Some f) start part room short some within first gives =
+    let over : length f.bytes + f.lost ≤ start + length part = gives.at_end refl some in
+    let whole : nat_lt 0 f.lost ≡ false = le-ltb 0 f.lost (omega (arith, over, first.1, within)) in
+    let rest : length (drop start f.bytes) ≡ length part = omega (arith, over, first.1, within, length-drop start f.bytes) in
+    let same : take block_len (drop start f.bytes) ≡ part =
+    take_all block_len (drop start f.bytes) (omega (arith, rest, short)) ∙ sym (first.0 ∙ take_all (length part) (drop start f.bytes) (omega (arith, rest))) in
+    rw (none_right (nat_lt (length f.bytes) (start + block_len)) (nat_lt 0 f.lost) whole, same) refl
+
+-- ---- the file at a path
+
+module _ {A : Type 0} (view : A → List ℕ) (result : Result A RunFault) where
+  abbrev Loaded : Result (List ℕ) RunFault → Type 0
+  Loaded expected = AgreesUnlessMemory run_refusal view result expected
+
+  from_held : (held contents : Option FileContents) → IsFileAt held contents → IfSome contents (λ f. Loaded (text_of_file (Some f))) → Loaded (text_of_file held)
+  from_held None contents is of = absurd is
+  from_held (Some f) contents is of = subst (λ t. IfSome t (λ file. Loaded (text_of_file (Some file)))) is of
+
+  -- what is loaded of the file that was opened is so of its path
+  pub text_of_path : (history : Option History) (path : List ℕ) (contents : Option FileContents) → IfSome history (λ h. IsFileAt (held_now h path) contents)
+      → IfSome contents (λ f. Loaded (text_of_file (Some f))) → IfSome history (λ h. Loaded (text_at (held_now h) path))
+  text_of_path None path contents is of = tt
+  text_of_path (Some h) path contents is of = from_held (held_now h path) contents is of
+
+-- ---- the text of an input
 
 -- ---- one read of a file
 
@@ -31,7 +106,7 @@ module _ (contents between now : Option FileContents) (bytes room : List ℕ) (p
   lost None fault come reads still = tt
   lost (Some f) fault come reads still = rw still (come, reads.0, reads.1)
 
-  pub failed_after : (fault : DiskFault) → IfSome between (λ f. Reads (Err fault) f place room) → next ≡ place → FailedAfter contents now next bytes
+  pub failed_after : (fault : DiskFault) → IfSome between (λ f. Reads (Err fault) f place room) → next ≡ place → FailedOf contents now next bytes
   failed_after fault reads still = (same ∙ came.0, lost contents fault came.1 (subst (λ t. IfSome t (λ f. Reads (Err fault) f place room)) came.0 reads) still)
 
 pub is_past : (contents now : Option FileContents) (room : List ℕ) (place next n : ℕ) → now ≡ contents → IfSome contents (λ f. Gives f place room n) → IfSome contents (λ f. next ≡ place + n)
@@ -69,7 +144,7 @@ module _ (f : FileContents) (given : List ℕ) (place : ℕ) (come : HaveCome f 
 
 -- the text of a file
 pub file_loaded : {A : Type 0} (view : A → List ℕ) (contents now : Option FileContents) (place : ℕ) (result : Result A RunFault) → IfOk result (λ x. length (view x) ≤ capture_limit)
-    → Loads (CameOf contents now place) (FailedAfter contents now place) (IsPast now place) view result
+    → Loads (CameOf contents now place) (FailedOf contents now place) (IsPast now place) view result
     → IfErr result IsOfFile × IfSome contents (λ f. AgreesUnlessMemory run_refusal view result (text_of_file (Some f)))
 file_loaded view None now place (Ok x) within is = (tt, tt)
 file_loaded view None now place (Err CaptureTooLong) within is = (tt, tt)

@@ -1,13 +1,10 @@
 -- A text whose heads are taken as it is read.
-use Rattle.std.proofs.Common.{◌≡◌, ◌<◌, ◌≤◌, ℕ, ◌+◌, false, List, [], ◌∷◌, ◌++◌, length, take, drop, Result, refl, sym, ap, subst, ◌∙◌, ◌-◌, arith, length-append, length-drop, length-take, append-nil, append_assoc}
+use Rattle.std.proofs.Common.{◌≡◌, ◌<◌, ◌≤◌, ℕ, ◌+◌, false, List, [], ◌∷◌, ◌++◌, length, take, drop, Result, refl, sym, ap, subst, ◌∙◌, ◌-◌, arith}
+use Rattle.std.proofs.Common.{length-append, length-drop, length-take, append-nil, append_assoc}
 use Rattle.std.proofs.lemmas.List.{length-take-le, take-append-le}
 use Rattle.std.proofs.Math.Seq.{take-append-add}
-use Rattle.lists.specs.Agreement.{AgreesUnlessMemory}
-use Rattle.pcap_records.specs.Heads.{Heads, HeadReaderView, no_header, heads_in, read_on}
-use Rattle.pcap_records.specs.declared.fault.CaptureFault.{CaptureFault}
-use Rattle.pcap_records.specs.CaptureView.{capture_refusal}
-use Rattle.pcap_records.specs.Reading.{capture_limit, reading}
-use Rattle.run_files.specs.Dumps.{is_dump}
+use Rattle.run_files.specs.{AgreesUnlessMemory, Heads, HeadReaderView, no_header, heads_in, read_on, CaptureFault, capture_refusal, capture_limit, reading}
+use Rattle.run_files.specs.{is_dump}
 
 -- These bytes came of a text that is no dump; a reader took all of them but those that are held at the front of a buffer, and whatever
 -- follows them, it will find the heads of the text.

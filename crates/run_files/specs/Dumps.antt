@@ -1,9 +1,11 @@
--- Dumps: bytes written as pairs of hexadecimal digits in either case, the higher digit first, with blanks anywhere.
-use Rattle.std.specs.Prelude.{◌≡◌, ℕ, ◌+◌, ◌*◌, ◌<◌, ◌%◌, ◌==◌, ◌||◌, ◌⊎◌, not, Bool, false, List, [], ◌∷◌, length, slice_get, position, count_by, filter, if◌then◌else◌, Option, Some, None, Result, Ok, Err}
-use Rattle.std.specs.Result.{result_unwrap_or}
-use Rattle.hex.specs.Hex.{IsBytes, decode_of, encode_lower, encode_upper, is_hex_digit, pair_value}
+-- The text of a capture, and dumps: bytes written as pairs of hexadecimal digits in either case, the higher digit first, with blanks anywhere.
+use Rattle.std.specs.Prelude.{◌≡◌, ℕ, ◌+◌, ◌*◌, ◌<◌, ◌%◌, ◌==◌, ◌||◌, ◌⊎◌, not, Bool, false, List, [], ◌∷◌, length, slice_get, position, count_by, filter}
+use Rattle.std.specs.Prelude.{if◌then◌else◌, Option, Some, None, Result, Ok, Err}
+use Rattle.run_files.specs.Words.{result_unwrap_or, IsBytes, decode_of, encode_lower, encode_upper, is_hex_digit, pair_value}
 use Rattle.run_files.specs.declared.error.RunFault.{RunFault}
 use Rattle.run_files.specs.declared.error.RunFault.TheVariants.{BadDump}
+use Rattle.run_files.specs.declared.dumps.TextBytes.{TextBytes}
+use Rattle.run_files.specs.declared.dumps.TextBytes.TheVariants.{InBlocks, Lent, Whole}
 
 -- a tab, a line feed, a carriage return or a space
 abbrev pub is_blank : ℕ → Bool
@@ -48,3 +50,15 @@ AreDecoded = (bytes text : List ℕ) → dump_reading text ≡ Ok bytes → deco
 abbrev pub is_dump : List ℕ → Bool
 is_dump [] = false
 is_dump (b ∷ _) = is_hex_digit b
+
+-- ---- the bytes of the text of a capture
+
+abbrev pub bytes_of_text : TextBytes → List ℕ
+bytes_of_text (Whole bytes) = bytes.items
+bytes_of_text (Lent bytes) = bytes.now
+bytes_of_text (InBlocks blocks) = blocks
+
+abbrev pub BlocksAreNoDump : TextBytes → Type 0
+BlocksAreNoDump (Whole bytes) = Unit {0}
+BlocksAreNoDump (Lent bytes) = Unit {0}
+BlocksAreNoDump (InBlocks blocks) = is_dump blocks ≡ false

@@ -1,11 +1,9 @@
 -- Folders of a disk: which names they refuse, where their drafts are, and which files were committed to them.
-use Rattle.std.specs.Prelude.{◌≡◌, ◌⊎◌, ⊤, false, Some, None, ◌<◌, ◌^◌, ℕ, nat_lt, ◌==◌, Bool, ◌||◌, if◌then◌else◌, List, [], ◌++◌, codes, length, map, Option, Result}
-use Rattle.std.specs.Fmt.{decimal}
-use Rattle.disks.specs.DraftPaths.{has_slash, is_draft_name, path_in, unfinished}
-use Rattle.disks.specs.Histories.{History, PublishedFile, published_file, Publishes}
-use Rattle.disks.specs.ReadFiles.{ReadFilesView}
-use Rattle.disks.specs.Standing.{HasRead, Standing}
-use Rattle.run_files.specs.StoredFiles.{StoredFile}
+use Rattle.std.specs.Prelude.{◌≡◌, ◌⊎◌, ⊤, false, Some, None, ◌<◌, ◌^◌, ℕ, nat_lt, ◌==◌, Bool, ◌||◌, if◌then◌else◌, List, [], ◌++◌, codes, length, map, Option}
+use Rattle.std.specs.Prelude.{Result}
+use Rattle.run_files.specs.Words.{decimal, has_slash, is_draft_name, path_in, unfinished, History, PublishedFile, published_file, Publishes, ReadFilesView}
+use Rattle.run_files.specs.Words.{HasRead, Standing}
+use Rattle.run_files.specs.WrittenOutputs.{StoredFile}
 use Rattle.run_files.specs.declared.error.RunFault.{RunFault}
 use Rattle.run_files.specs.RunFault.{failed_puts}
 

@@ -1,13 +1,16 @@
+pub mod Words
 pub mod RunFault
 pub mod Streams
-pub mod Paths
 pub mod Loading
-pub mod LoadedBlocks
-pub mod DraftedOutputs
-pub mod Dumps
-pub mod Texts
-pub mod SeenTexts
-pub mod StoredFiles
-pub mod Shelves
-pub mod Folders
 pub mod WrittenOutputs
+pub mod Dumps
+pub mod SeenTexts
+pub mod Folders
+unfoldable pub use Words.*
+unfoldable pub use RunFault.*
+unfoldable pub use Streams.*
+unfoldable pub use Loading.*
+unfoldable pub use WrittenOutputs.*
+unfoldable pub use Dumps.*
+unfoldable pub use SeenTexts.*
+unfoldable pub use Folders.*

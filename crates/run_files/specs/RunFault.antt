@@ -1,16 +1,14 @@
 -- The faults of a run, and the line of each.
 use Rattle.std.specs.Prelude.{ℕ, Bool, if◌then◌else◌, List, [], ◌++◌, codes, Option, Some, None, Result, Ok, Err}
-use Rattle.std.specs.Fmt.{decimal}
-use Rattle.pcap_records.specs.declared.fault.CaptureFault.{CaptureFault}
-use Rattle.pcap_records.specs.declared.fault.CaptureFault.TheVariants as of_capture
-use Rattle.scenarios.specs.declared.error.Cause.{Cause}
-use Rattle.scenarios.specs.declared.error.Cause.TheVariants as causes
+use Rattle.run_files.specs.Words.{decimal, CaptureFault, Cause}
 use Rattle.run_files.specs.declared.error.RunFault.{RunFault}
-use Rattle.run_files.specs.declared.error.RunFault.TheVariants as of_run
 use Rattle.run_files.specs.declared.error.StoreFault.{StoreFault}
-use Rattle.run_files.specs.declared.error.StoreFault.TheVariants as of_storing
 use Rattle.run_files.specs.declared.fault_lines.FaultPlace.{FaultPlace}
 use Rattle.run_files.specs.declared.fault_lines.FaultPlace.TheVariants.{Nowhere, At, Host, After, In}
+use Rattle.pcap_records.specs.declared.fault.CaptureFault.TheVariants as of_capture
+use Rattle.scenarios.specs.declared.error.Cause.TheVariants as causes
+use Rattle.run_files.specs.declared.error.RunFault.TheVariants as of_run
+use Rattle.run_files.specs.declared.error.StoreFault.TheVariants as of_storing
 
 abbrev pub run_fault : CaptureFault → RunFault
 run_fault of_capture.ShortHeader = of_run.ShortHeader

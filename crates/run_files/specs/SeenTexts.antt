@@ -1,14 +1,10 @@
 -- What is kept of a capture's text if only reports are expected.
 use Rattle.std.specs.Prelude.{◌≡◌, ℕ, ◌≤◌, true, false, List, length, IfOk, Result, Ok, Err}
-use Rattle.lists.specs.Agreement.{AgreesUnlessMemory}
-use Rattle.pcap_records.specs.Heads.{heads_in}
-use Rattle.pcap_records.specs.CaptureView.{capture_refusal}
-use Rattle.pcap_records.specs.Reading.{capture_limit, reading}
+use Rattle.run_files.specs.Words.{AgreesUnlessMemory, heads_in, capture_refusal, capture_limit, reading}
 use Rattle.run_files.specs.declared.error.RunFault.{RunFault}
-use Rattle.run_files.specs.declared.seen_parts.SeenText.{SeenText}
-use Rattle.run_files.specs.declared.seen_parts.SeenText.TheVariants.{Dump, Heads}
+use Rattle.run_files.specs.declared.head_loading.SeenText.{SeenText}
+use Rattle.run_files.specs.declared.head_loading.SeenText.TheVariants.{Dump, Heads}
 use Rattle.run_files.specs.Dumps.{is_dump}
-use Rattle.run_files.specs.Streams.{StopsLoading}
 
 -- what is kept of a text: all of a dump, and else the heads in it, or the capture's first fault
 abbrev pub IsSeenOf : SeenText → List ℕ → Type 0
@@ -25,9 +21,3 @@ SeesAs _ _ = ⊥
 abbrev pub Sees : Result SeenText RunFault → (Result (List ℕ) RunFault → Type 0) → Type 0
 Sees result LoadedSo =
     (loaded : Result (List ℕ) RunFault) × SeesAs result loaded × IfOk loaded (λ text. length text ≤ capture_limit) × LoadedSo loaded
-
--- how the text of a reader was loaded, where `Gave` means that it gave some bytes: to its end, or as far as loading came
-abbrev pub LoadsInput : {A : Type 0} → (A → List ℕ) → Result A RunFault → (List ℕ → Type 0) → Type 0 → ℕ → ℕ → Type 0
-LoadsInput view (Ok text) Gave AtEnd old_failed new_failed = Gave (view text) × AtEnd × (new_failed ≡ old_failed)
-LoadsInput view (Err fault) Gave AtEnd old_failed new_failed =
-    (given : List ℕ) × Gave given × StopsLoading fault (length given) old_failed new_failed

@@ -1,11 +1,37 @@
--- What is written of the outputs of a rehearsal: their reports are printed, or two files for each are stored.
-use Rattle.std.specs.Prelude.{◌≡◌, ℕ, ◌+◌, ◌-◌, ◌<◌, List, [], ◌∷◌, ◌++◌, length, take, replicate, codes, Result, Ok, Err}
-use Rattle.std.specs.List.{flat_map}
-use Rattle.std.specs.Fmt.{decimal}
+-- What is written of the outputs of a rehearsal: their reports are printed, or two files for each are stored, on a shelf or as drafts.
+use Rattle.std.specs.Prelude.{ℕ, List, ◌≡◌, ⊤, ◌++◌, Option, Some, None, ◌+◌, ◌-◌, ◌<◌, [], ◌∷◌, length, take, replicate, codes, Result, Ok, Err}
+use Rattle.run_files.specs.Words.{flat_map, decimal}
 use Rattle.run_files.specs.declared.outputs.Output.{Output}
 use Rattle.run_files.specs.declared.error.StoreFault.{StoreFault}
 use Rattle.run_files.specs.declared.error.StoreFault.TheVariants.{ShelfFailed, Memory}
-use Rattle.run_files.specs.StoredFiles.{StoredFile, stored_file}
+
+-- ---- a file as it is put
+
+pub record StoredFile : Type 0 where
+  pub name : List ℕ
+  pub bytes : List ℕ
+
+abbrev pub stored_file : List ℕ → List ℕ → StoredFile
+stored_file name bytes = record { name = name; bytes = bytes }
+
+-- ---- shelves
+
+-- A shelf has taken some files, and no other, by the files that it had and has. Nothing is said of a shelf that does not tell them.
+abbrev pub Takes : Option (List StoredFile) → Option (List StoredFile) → List StoredFile → Type 0
+Takes None new files = ⊤
+Takes (Some had) None files = ⊥
+Takes (Some had) (Some has) files = has ≡ had ++ files
+
+-- the files, the oldest first, and the number of failed calls
+pub record MemoryShelfView : Type 0 where
+  pub files : List StoredFile
+  pub failed : ℕ
+
+-- ---- drafts
+
+-- a draft of its capture, and one of its report, where `Holds` tells what a draft holds
+abbrev pub IsDraftOf : {Draft : Type 0} → (Draft → List ℕ → Type 0) → Output → Draft × Draft → Type 0
+IsDraftOf Holds output drafted = Holds drafted.0 output.capture × Holds drafted.1 output.report
 
 -- ---- printed
 

@@ -1,18 +1,12 @@
 //! Loading the text of a file, of a large one block by block, by workers.
 ghost use Rattle.std.specs.Prelude.{◌≡◌, ◌≤◌, ◌<◌, length, map, All, IfErr, IfOk, IfSome, Some};
-ghost use Rattle.std.specs.Option.{ForSome};
-ghost use Rattle.disks.specs.FileContents.{file_len};
-ghost use Rattle.lists.specs.Agreement.{AgreesUnlessMemory};
-ghost use Rattle.pcap_records.specs.Blocks.{block_len, block_limit, bytes_until_short};
-ghost use Rattle.pcap_records.specs.Reading.{capture_limit};
-ghost use Rattle.run_files.specs.LoadedBlocks.{HasBlocks, blocks_of, part_at};
-ghost use Rattle.run_files.specs.Paths.{IsOfFile, text_of_file};
-ghost use Rattle.run_files.specs.RunFault.{run_refusal};
+ghost use Rattle.run_files.specs.{ForSome, file_len, AgreesUnlessMemory, block_len, block_limit, bytes_until_short, capture_limit, HasBlocks, blocks_of};
+ghost use Rattle.run_files.specs.{part_at, IsOfFile, text_of_file, run_refusal};
 
+use crate::dumps::Text;
 use crate::error::RunFault;
 use crate::inputs::load_whole;
 use crate::streams::room_to_read;
-use crate::texts::Text;
 use disks::DiskFile;
 use job_matrix::{Phase, Plan, Through, Work, work_all};
 use pcap_records::{BLOCK_LEN, Blocks, CAPTURE_LIMIT, SLICE_LIMIT, Values};
@@ -100,8 +94,8 @@ impl<'f, F: DiskFile + Sync> Work for BlockJobs<'f, F> {
     type Out = LoadedBlock<'f, F>;
 
     ghost use Rattle.std.specs.Prelude.{◌≡◌, ◌<◌, ◌≤◌, IfOk, get_or, length};
-    ghost use Rattle.pcap_records.specs.Blocks.{block_limit};
-    ghost use Rattle.run_files.specs.LoadedBlocks.{blocks_of};
+    ghost use Rattle.run_files.specs.Words.{block_limit};
+    ghost use Rattle.run_files.specs.Loading.{blocks_of};
 
     ghost values = { λ w. blocks_of (F.contents w.file.now) w.count };
 
@@ -126,10 +120,8 @@ struct LoadedBlock<'f, F: DiskFile> {
 
 impl<'f, F: DiskFile> Model for LoadedBlock<'f, F> {
     ghost use Rattle.std.specs.Prelude.{◌≤◌, IfErr, IfOk, IfSome, length};
-    ghost use Rattle.lists.specs.Agreement.{AgreesUnlessMemory};
-    ghost use Rattle.pcap_records.specs.Blocks.{block_len};
-    ghost use Rattle.run_files.specs.LoadedBlocks.{BlockView, block_view, part_at};
-    ghost use Rattle.run_files.specs.Paths.{IsOfFile};
+    ghost use Rattle.run_files.specs.Words.{AgreesUnlessMemory, block_len};
+    ghost use Rattle.run_files.specs.Loading.{BlockView, block_view, part_at, IsOfFile};
     ghost use Rattle.run_files.specs.RunFault.{run_refusal};
 
     ghost Value = { BlockView };

@@ -1,13 +1,13 @@
-//! Bytes from their hexadecimal digits.
-ghost use Rattle.std.specs.Prelude.{◌≡◌, ◌<◌, ◌+◌, ◌*◌, ◌∷◌, [], length, Ok, IfOk, IfSome, MatchOption, count_by, position};
-ghost use Rattle.hex.specs.Hex.{decode_of, is_hex_digit, pair_value};
-ghost use Rattle.lists.specs.Agreement.{Agrees, Refuses};
-ghost use Rattle.run_files.specs.RunFault.{run_refusal};
-ghost use Rattle.run_files.specs.Dumps.{BeginsWith, HoldsPairs, is_blank, is_foreign, is_dump, dump_reading, without_blanks};
+//! The text of a capture, as it was loaded or is lent, and dumps: bytes written as hexadecimal digits.
+ghost use Rattle.std.specs.Prelude.{◌≡◌, ◌<◌, ◌+◌, ◌*◌, ◌∷◌, [], length, Ok, IfOk, IfSome, MatchOption, count_by, position, if◌then◌else◌, Result};
+ghost use Rattle.run_files.specs.{decode_of, is_hex_digit, pair_value, Agrees, Refuses, run_refusal, BeginsWith, HoldsPairs, is_blank, is_foreign, is_dump};
+ghost use Rattle.run_files.specs.{dump_reading, without_blanks, bytes_of};
 
 use crate::error::RunFault;
 use hex::FromHexError;
+use pcap_records::{Blocks, FileBytes};
 use std::alloc::{AllocError, Global};
+use std::marker::Model;
 
 /// Whether a text is taken for a dump: its first byte is a hexadecimal digit.
 pub fn is_dump(text: &[u8]) -> bool
@@ -188,3 +188,84 @@ const DIGITS: &[u8; 22] = b"0123456789abcdefABCDEF";
 
 // The number of pairs of bytes.
 const PLACES: usize = 256 * 256;
+
+#[derive(Drop)]
+pub(crate) enum TextBytes<'t> {
+    Whole(Vec<u8>),
+    Lent(&'t [u8]),
+    // They are no dump.
+    InBlocks(Blocks),
+}
+
+/// The text of a capture, which may be a dump. Contracts see its bytes.
+#[derive(Drop)]
+pub struct Text<'t> {
+    bytes: TextBytes<'t>,
+}
+
+impl<'t> Model for Text<'t> {
+    ghost use Rattle.std.specs.Prelude.{ℕ, List};
+    ghost use Rattle.run_files.specs.Dumps.{bytes_of_text, BlocksAreNoDump};
+
+    ghost Value = { List ℕ };
+
+    ghost view = { λ t. bytes_of_text t.bytes };
+
+    ghost invariant = { λ t. BlocksAreNoDump t.bytes };
+}
+
+impl<'t> Text<'t> {
+    /// The text of these bytes.
+    pub fn of(bytes: Vec<u8>) -> Text<'t>
+        ensures { result ≡ bytes.items }
+    {
+        Text {
+            bytes: TextBytes::Whole(bytes),
+        }
+    }
+
+    /// The text of bytes that stay where they are.
+    pub fn lent(bytes: &'t [u8]) -> Text<'t>
+        ensures { result ≡ bytes.now }
+    {
+        Text {
+            bytes: TextBytes::Lent(bytes),
+        }
+    }
+
+    pub(crate) fn of_blocks(blocks: Blocks) -> Option<Text<'t>>
+        ensures text { IfSome result (λ text. text ≡ blocks) }
+    {
+        if is_dump(blocks.slice(0, blocks.len().min(1))) {
+            return None;
+        }
+        Some(Text {
+            bytes: TextBytes::InBlocks(blocks),
+        })
+    }
+
+    /// The bytes.
+    pub fn bytes(&self) -> FileBytes<'_>
+        ensures { bytes_of result ≡ self.now }
+    {
+        match &self.bytes {
+            TextBytes::Whole(bytes) => FileBytes::Whole(bytes),
+            TextBytes::Lent(bytes) => FileBytes::Whole(bytes),
+            TextBytes::InBlocks(blocks) => FileBytes::InBlocks(blocks),
+        }
+    }
+
+    /// The bytes of the capture, as a text: those of the dump if the text is taken for one. Any other text is returned as it is, not copied.
+    ///
+    /// # Errors
+    /// Those of [`undump`](crate::undump).
+    pub fn undumped(self, alloc: Global) -> Result<Text<'t>, RunFault>
+        ensures { Agrees run_refusal (λ text. text) result (if is_dump self.entry then dump_reading self.entry else Ok self.entry) }
+    {
+        match &self.bytes {
+            TextBytes::Whole(bytes) if is_dump(bytes) => Ok(Text::of(undump(alloc, bytes)?)),
+            TextBytes::Lent(bytes) if is_dump(bytes) => Ok(Text::of(undump(alloc, bytes)?)),
+            _ => Ok(self),
+        }
+    }
+}

@@ -1,7 +1,6 @@
 //! The line of a fault.
 ghost use Rattle.std.specs.Prelude.{◌≡◌, ◌++◌, IfOk, OnOk, Some};
-ghost use Rattle.std.specs.String.{string_bytes};
-ghost use Rattle.run_files.specs.RunFault.{cause_entry, fault_entry, fault_text, known_text, place_text};
+ghost use Rattle.run_files.specs.{string_bytes, cause_entry, fault_entry, fault_text, known_text, place_text};
 
 use crate::error::RunFault;
 use scenarios::Cause;

@@ -1,12 +1,11 @@
 //! Folders of a disk, to which a file is committed when it is whole.
-ghost use Rattle.std.specs.Prelude.{◌≡◌, Err, IfOk, false};
-ghost use Rattle.std.specs.String.{string_bytes};
-ghost use Rattle.disks.specs.DraftPaths.{path_in};
-ghost use Rattle.disks.specs.Histories.{failures};
-ghost use Rattle.run_files.specs.RunFault.{failed_puts, run_fault_of_storing};
-ghost use Rattle.run_files.specs.WrittenOutputs.{stored_before};
+ghost use Rattle.std.specs.Prelude.{◌≡◌, Err, IfOk, false, ℕ, List, ◌+◌, ◌-◌, ◌^◌, ◌<◌, ◌≤◌, ◌*◌, ◌++◌, [], ◌∷◌, length, OnOk};
+ghost use Rattle.run_files.specs.{string_bytes, path_in, failures, failed_puts, run_fault_of_storing, stored_before, IsDraftOf, has_slash, CommitsIn};
+ghost use Rattle.run_files.specs.{failed_stores, Leaves, outcome_of_storing, stored_file, files_from, four_digits, PutsAfter, Stores};
+ghost use Rattle.run_files.specs.declared.outputs.Output.{Output};
 
 use crate::error::StoreFault;
+use crate::outputs::file_name;
 use disks::laws::drafts_are_named;
 use disks::{Disk, DiskFault, ReadFiles};
 use std::alloc::{AllocError, Global};
@@ -40,14 +39,10 @@ impl<'a> Model for Folder<'a> {
 }
 
 impl<'a> Folder<'a> {
-    ghost use Rattle.std.specs.Prelude.{◌≡◌, ◌||◌, ℕ, List, length, ◌+◌, ◌-◌, ◌^◌, ◌<◌, ◌∷◌, [], true, false, Err, IfErr, IfOk, IfSome, IsTrue, None, OnErr, OnOk};
-    ghost use Rattle.std.specs.String.{string_bytes};
-    ghost use Rattle.disks.specs.DraftPaths.{IsDraftPath};
-    ghost use Rattle.disks.specs.Standing.{ChangesAt, HasRead};
-    ghost use Rattle.run_files.specs.Folders.{draft_path, failed_stores, is_refused, CommitsIn, Leaves};
-    ghost use Rattle.run_files.specs.RunFault.{failed_puts, outcome_of_storing};
-    ghost use Rattle.run_files.specs.StoredFiles.{stored_file};
-    ghost use Rattle.run_files.specs.WrittenOutputs.{PutsAfter, stored_before};
+    ghost use Rattle.std.specs.Prelude.{◌≡◌, ◌||◌, ℕ, List, length, ◌+◌, ◌-◌, ◌^◌, ◌<◌, ◌∷◌, [], true, false, Err, IfErr, IfOk, IfSome, IsTrue, None, OnErr};
+    ghost use Rattle.std.specs.Prelude.{OnOk};
+    ghost use Rattle.run_files.specs.{string_bytes, IsDraftPath, ChangesAt, HasRead, draft_path, failed_stores, is_refused, CommitsIn, Leaves, failed_puts};
+    ghost use Rattle.run_files.specs.{outcome_of_storing, stored_file, PutsAfter, stored_before};
 
     /// The folder at a path, for a run that has read these files: it replaces none of them.
     pub fn new(path: &'a str, read: ReadFiles) -> Self
@@ -199,4 +194,61 @@ fn path_in(alloc: Global, folder: &str, name: &str) -> Result<String, AllocError
     ensures { IfOk result (λ path. string_bytes path ≡ path_in folder.now name.now) }
 {
     format!(in alloc; "{folder}/{name}")
+}
+
+/// What one scenario answers, as drafts: its capture, and its report.
+pub type DraftedOutput<D> = (D, D);
+
+/// Commits the drafts of an output to a folder: they become the files that [`store_all`](crate::store_all) puts of the output of
+/// this number.
+///
+/// # Errors
+/// The first file that cannot be stored ends it; none is tried again. `after` counts those before it, of outputs of lower numbers too.
+pub fn store_draft<D: Disk>(
+    alloc: Global,
+    number: usize,
+    drafts: DraftedOutput<D::Draft>,
+    folder: &Folder<'_>,
+    disk: &mut D,
+) -> Result<(), StoreFault>
+    requires faults { D.faults disk.old < 2 ^ 64 - 1 }
+    requires number { number < 2 ^ 32 }
+    ensures faults { D.faults disk.new ≡ D.faults disk.old + failed_stores folder.now.path (outcome_of_storing result) }
+    ensures path { OnOk result (0 < length folder.now.path) }
+    ensures leaves { Leaves folder.now (D.standing disk.old) (D.standing disk.new) }
+    ensures swept { D.is_swept disk.old folder.now.path folder.now.read → D.is_swept disk.new folder.now.path folder.now.read }
+    ensures stores { (output : Output) → IsDraftOf D.holds output drafts
+        → Stores (2 * number) (files_from number (output ∷ [])) (CommitsIn folder.now.path (D.history disk.old) (D.history disk.new)) result }
+{
+    let (capture, report) = drafts;
+    let after = 2 * number as u64;
+    commit_file(alloc, number, ".pcap", capture, folder, disk, after)?;
+    commit_file(alloc, number, ".txt", report, folder, disk, after + 1)
+}
+
+fn commit_file<D: Disk>(
+    alloc: Global,
+    number: usize,
+    ending: &str,
+    draft: D::Draft,
+    folder: &Folder<'_>,
+    disk: &mut D,
+    after: u64,
+) -> Result<(), StoreFault>
+    requires faults { D.faults disk.old < 2 ^ 64 - 1 }
+    requires number { number < 2 ^ 32 }
+    requires ending { length ending.now ≤ 5 }
+    requires slash { has_slash ending.now ≡ false }
+    ensures faults { D.faults disk.new ≡ D.faults disk.old + failed_stores folder.now.path (outcome_of_storing result) }
+    ensures path { OnOk result (0 < length folder.now.path) }
+    ensures leaves { Leaves folder.now (D.standing disk.old) (D.standing disk.new) }
+    ensures swept { D.is_swept disk.old folder.now.path folder.now.read → D.is_swept disk.new folder.now.path folder.now.read }
+    ensures puts { (bytes : List ℕ) → D.holds draft bytes → PutsAfter after
+        (CommitsIn folder.now.path (D.history disk.old) (D.history disk.new) (stored_file (four_digits number ++ ending.now) bytes ∷ []))
+        (D.history disk.new ≡ D.history disk.old) result }
+{
+    let Ok(name) = file_name(alloc, number, ending) else {
+        return Err(StoreFault::Memory { after });
+    };
+    folder.commit(alloc, disk, &name, draft, after)
 }

@@ -1,27 +1,25 @@
 //! Loading a capture by its heads, as it is read.
-ghost use Rattle.std.specs.Io.KnownBytes.{Consumes, IsAtEnd};
-ghost use Rattle.run_files.specs.SeenTexts.{LoadsInput, Sees, SeesAs};
-ghost use Rattle.lists.specs.Agreement.{AgreesUnlessMemory};
-ghost use Rattle.run_files.specs.RunFault.{run_refusal};
-ghost use Rattle.run_files.specs.Paths.{IsOfFile, text_at};
-ghost use Rattle.pcap_records.specs.Blocks.{slice_limit};
-ghost use Rattle.run_files.specs.Loading.{Loads};
-ghost use Rattle.std.specs.Prelude.{◌≡◌, ◌-◌, ◌<◌, ◌≤◌, ◌^◌, false, ℕ, List, [], Result, length, take, IfErr, IfOk, IfSome};
-ghost use Rattle.run_files.specs.Dumps.{is_dump};
-ghost use Rattle.disks.specs.Histories.{held_now};
-ghost use Rattle.pcap_records.specs.Reading.{capture_limit};
+ghost use Rattle.std.specs.Prelude.{◌≡◌, ◌-◌, ◌<◌, ◌≤◌, ◌^◌, false, ℕ, List, [], Result, length, take, IfErr, IfOk, IfSome, ◌+◌, ◌++◌};
+ghost use Rattle.run_files.specs.{Consumes, IsAtEnd, LoadsInput, Sees, SeesAs, AgreesUnlessMemory, run_refusal, IsOfFile, text_at, slice_limit, Loads, is_dump};
+ghost use Rattle.run_files.specs.{held_now, capture_limit, read_on};
 
-use crate::dumps::is_dump;
+use crate::dumps::{Text, is_dump};
 use crate::error::RunFault;
-use crate::inputs::{Input, OpenFile, load_rest, read_next};
-use crate::loading::opened;
-use crate::seen_parts::{SeenText, room_for_heads, take_front};
-use crate::streams::Counted;
-use crate::texts::Text;
+use crate::inputs::{Input, OpenFile, load_rest, opened, read_next};
+use crate::streams::{Counted, READ_LEN};
 use disks::ReadDisk;
-use pcap_records::HeadReader;
-use std::alloc::Global;
+use pcap_records::{CaptureFault, HeadReader, KeptHeads, SLICE_LIMIT};
+use std::alloc::{AllocError, Global};
 use std::io::Read;
+
+/// What was loaded of the text of a capture if only its reports are asked for.
+#[derive(Drop)]
+pub enum SeenText {
+    /// The text is a dump, and this is all of it.
+    Dump(Text<'static>),
+    /// The heads of the capture that the text is, or its first fault.
+    Heads(Result<KeptHeads, CaptureFault>),
+}
 
 /// Loads the file at a path as far as reports see it: a dump whole, of any other file the heads. They are taken as it is read.
 ///
@@ -50,7 +48,6 @@ pub fn see_input<R: Read>(alloc: Global, reader: &mut Counted<R>) -> Result<Seen
     see_whole(alloc, reader)
 }
 
-// Sees an input from its first byte on.
 fn see_whole<I: Input>(alloc: Global, input: &mut I) -> Result<SeenText, RunFault>
     requires can { I.can_read input.old }
     requires first { I.gives input.old input.old [] }
@@ -95,4 +92,29 @@ fn see_rest<I: Input>(
         }
         held += more;
     }
+}
+
+// Room for one read after the bytes that are held. It stands apart so that no other proof meets this list of zeros.
+fn room_for_heads(alloc: Global) -> Result<Vec<u8>, AllocError>
+    ensures more { IfOk result (λ room. slice_limit ≤ length room.items) }
+    ensures within { IfOk result (λ room. length room.items ≤ capture_limit) }
+{
+    vec![in alloc; 0u8; READ_LEN + SLICE_LIMIT]
+}
+
+// Takes what can be taken of the `held` bytes at the front of a buffer, and moves the others to its front. Gives the number of those.
+fn take_front(reader: &mut HeadReader, buffer: &mut [u8], held: usize) -> Result<usize, AllocError>
+    requires held { held ≤ length buffer.old }
+    requires short { reader.old.taken + held ≤ capture_limit }
+    ensures few { IfOk result (λ left. left < slice_limit) }
+    ensures counted { IfOk result (λ left. reader.new.taken + left ≡ reader.old.taken + held) }
+    ensures len { length buffer.new ≡ length buffer.old }
+    ensures same { IfOk result (λ left. (more : List ℕ) → reader.old.taken + held + length more ≤ capture_limit
+        → read_on reader.old.found (take held buffer.old ++ more) ≡ read_on reader.new.found (take left buffer.new ++ more)) }
+{
+    let before = reader.taken();
+    reader.take(&buffer[..held])?;
+    let taken = reader.taken() - before;
+    buffer.copy_within(taken..held, 0);
+    Ok(held - taken)
 }

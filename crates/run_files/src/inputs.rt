@@ -1,17 +1,18 @@
-//! What a text is read of, a file of a disk or a reader, and loading all of it.
-ghost use Rattle.std.specs.Prelude.{◌≡◌, ◌≤◌, ◌<◌, ◌+◌, ◌++◌, ℕ, List, length, take, IfErr, IfOk, IfSome, Some};
-ghost use Rattle.lists.specs.Agreement.{AgreesUnlessMemory};
-ghost use Rattle.pcap_records.specs.Reading.{capture_limit};
-ghost use Rattle.run_files.specs.Loading.{ComesOn, LoadsAfter, Stops};
-ghost use Rattle.run_files.specs.Paths.{IsOfFile, text_of_file};
-ghost use Rattle.run_files.specs.RunFault.{run_refusal};
+//! Loading all of an input, a reader or a file of a disk by its path: a large file by workers, block by block.
+ghost use Rattle.std.specs.Prelude.{◌≡◌, ◌≤◌, ◌<◌, ◌+◌, ◌++◌, ℕ, List, length, take, IfErr, IfOk, IfSome, Some, OnOk, Err, Ok};
+ghost use Rattle.run_files.specs.{AgreesUnlessMemory, capture_limit, ComesOn, LoadsAfter, Stops, IsOfFile, text_of_file, run_refusal, held_now, text_at};
+ghost use Rattle.run_files.specs.{IsFileAt, with_file, id_of};
 
+use crate::block_loading::load_text;
+use crate::dumps::Text;
 use crate::error::RunFault;
 use crate::streams::{Counted, room_to_read};
-use disks::DiskFile;
+use disks::{DiskFault, DiskFile, ReadDisk, ReadFiles};
+use job_matrix::Plan;
 use pcap_records::CAPTURE_LIMIT;
 use std::alloc::Global;
 use std::io::Read;
+use std::thread::Threads;
 
 pub(crate) trait Input {
     ghost use Rattle.std.specs.Prelude.{◌≡◌, ◌<◌, ◌≤◌, ◌++◌, ℕ, List, length, take, IfNone, IfSome};
@@ -39,7 +40,7 @@ pub(crate) trait Input {
 
 impl<R: Read> Input for Counted<R> {
     ghost use Rattle.std.specs.Prelude.{◌≡◌, ◌+◌, ◌-◌, ◌<◌, ◌^◌};
-    ghost use Rattle.std.specs.Io.KnownBytes.{Consumes, IsAtEnd};
+    ghost use Rattle.run_files.specs.Words.{Consumes, IsAtEnd};
 
     ghost can_read = { λ c. c.failed < 2 ^ 64 - 1 };
 
@@ -64,13 +65,13 @@ pub(crate) struct OpenFile<F> {
 }
 
 impl<F: DiskFile> Input for OpenFile<F> {
-    ghost use Rattle.run_files.specs.Loading.{CameOf, FailedAfter, IsPast};
+    ghost use Rattle.run_files.specs.Loading.{CameOf, FailedOf, IsPast};
 
     ghost can_read = { λ o. Unit {0} };
 
     ghost gives = { λ before now bytes. CameOf (F.contents before.file) (F.contents now.file) (F.place now.file) bytes };
 
-    ghost fails = { λ before now bytes. FailedAfter (F.contents before.file) (F.contents now.file) (F.place now.file) bytes };
+    ghost fails = { λ before now bytes. FailedOf (F.contents before.file) (F.contents now.file) (F.place now.file) bytes };
 
     ghost is_at_end = { λ o. IsPast (F.contents o.file) (F.place o.file) };
 
@@ -129,7 +130,6 @@ pub(crate) fn load_rest<I: Input>(
     }
 }
 
-// Loads all bytes of a file from its first on.
 pub(crate) fn load_whole<F: DiskFile + Drop>(alloc: Global, file: F) -> Result<Vec<u8>, RunFault>
     requires { F.place file ≡ 0 }
     ensures contents { IfSome (F.contents file) (λ f. AgreesUnlessMemory run_refusal (λ bytes. bytes.items) result (text_of_file (Some f))) }
@@ -138,4 +138,63 @@ pub(crate) fn load_whole<F: DiskFile + Drop>(alloc: Global, file: F) -> Result<V
 {
     let mut room = room_to_read(alloc)?;
     load_rest(&mut OpenFile { file }, Vec::new(alloc), room.as_mut_slice())
+}
+
+/// Loads all bytes of the file at a path, and adds it to those that were read.
+///
+/// # Errors
+/// [`RunFault::ReadFailed`] if no file can be opened and read there, [`RunFault::CaptureTooLong`], and [`RunFault::Memory`].
+pub fn load_file<D: ReadDisk>(
+    alloc: Global,
+    disk: &D,
+    path: &str,
+    read: &mut ReadFiles,
+) -> Result<Vec<u8>, RunFault>
+    ensures contents { IfSome (D.history disk.now) (λ h.
+        AgreesUnlessMemory run_refusal (λ bytes. bytes.items) result (text_at (held_now h) path.now)) }
+    ensures read { IfSome (D.standing disk.now) (λ stood. OnOk result (read.new ≡ with_file read.old (Ok (id_of (stood path.now))))) }
+    ensures within { IfOk result (λ bytes. length bytes.items ≤ capture_limit) }
+    ensures of_file { IfErr result IsOfFile }
+{
+    let file = opened(alloc, disk, path)?;
+    read.add(file.id())?;
+    load_whole(alloc, file)
+}
+
+/// Loads the file at a path as [`load_file`] does, one of several blocks by the workers of a plan. What is written to the file meanwhile may
+/// be loaded or not. The errors are those of [`load_file`].
+pub fn load_by_workers<R: Threads + Sync, D: ReadDisk>(
+    rt: &R,
+    alloc: Global,
+    disk: &D,
+    path: &str,
+    plan: Plan,
+    read: &mut ReadFiles,
+) -> Result<Text<'static>, RunFault>
+where
+    D::File: Sync,
+    ensures contents { IfSome (D.history disk.now) (λ h.
+        AgreesUnlessMemory run_refusal (λ text. text) result (text_at (held_now h) path.now)) }
+    ensures read { IfSome (D.standing disk.now) (λ stood. OnOk result (read.new ≡ with_file read.old (Ok (id_of (stood path.now))))) }
+    ensures within { IfOk result (λ text. length text ≤ capture_limit) }
+    ensures of_file { IfErr result IsOfFile }
+{
+    let file = opened(alloc, disk, path)?;
+    read.add(file.id())?;
+    load_text(rt, alloc, file, plan)
+}
+
+pub(crate) fn opened<D: ReadDisk>(alloc: Global, disk: &D, path: &str) -> Result<D::File, RunFault>
+    ensures contents { IfSome (D.history disk.now) (λ h. IfOk result (λ file. IsFileAt (held_now h path.now) (D.File.contents file))) }
+    ensures place { IfOk result (λ file. D.File.place file ≡ 0) }
+    ensures identity { IfSome (D.standing disk.now) (λ stood. IfOk result (λ file. D.File.identity file ≡ Some (id_of (stood path.now)))) }
+    ensures untold { IfSome (D.history disk.now) (λ h. IfErr result (λ fault.
+        IfSome (run_refusal fault) (λ refused. text_at (held_now h) path.now ≡ Err refused))) }
+    ensures of_file { IfErr result IsOfFile }
+{
+    match disk.open(alloc, path) {
+        Ok(file) => Ok(file),
+        Err(DiskFault::Failed) => Err(RunFault::ReadFailed),
+        Err(DiskFault::Memory) => Err(RunFault::Memory),
+    }
 }

@@ -1,6 +1,5 @@
 //! Theorems about the definitions of this crate. Each function does nothing: its contract is the theorem.
-ghost use Rattle.run_files.specs.Dumps.{AreDecoded, ReadsBack};
-ghost use Rattle.run_files.specs.Folders.{DraftPathsDiffer};
+ghost use Rattle.run_files.specs.{AreDecoded, ReadsBack, DraftPathsDiffer};
 
 /// The hexadecimal digits of some bytes, all in lower or all in upper case, with any blanks, are a dump of these bytes.
 pub fn dumps_read_back()

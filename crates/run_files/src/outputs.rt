@@ -1,12 +1,7 @@
 //! What a rehearsal answers, its reports printed and its files stored.
 ghost use Rattle.std.specs.Prelude.{◌≡◌, false, ℕ, ◌+◌, ◌-◌, ◌^◌, ◌<◌, length, take, OnOk, OnErr, IfErr, ◌*◌, ◌++◌, [], ◌∷◌, IfOk};
-ghost use Rattle.std.specs.Io.KnownBytes.{Appends};
-ghost use Rattle.run_files.specs.WrittenOutputs.{reports_of};
-ghost use Rattle.std.specs.String.{string_bytes};
-ghost use Rattle.run_files.specs.Shelves.{Takes};
-ghost use Rattle.run_files.specs.StoredFiles.{stored_file};
-ghost use Rattle.run_files.specs.RunFault.{failed_puts, outcome_of_storing};
-ghost use Rattle.run_files.specs.WrittenOutputs.{four_digits, files_from, Stores, PutsAfter};
+ghost use Rattle.run_files.specs.{Appends, reports_of, string_bytes, Takes, stored_file, failed_puts, outcome_of_storing, four_digits, files_from, Stores};
+ghost use Rattle.run_files.specs.{PutsAfter};
 
 use crate::error::{RunFault, StoreFault};
 use crate::shelves::Shelf;

@@ -12,8 +12,7 @@ use std::marker::Model;
 /// `failures` is the number of its failed calls, which each shelf counts for itself.
 pub trait Shelf {
     ghost use Rattle.std.specs.Prelude.{◌≡◌, ℕ, ◌+◌, ◌-◌, ◌^◌, ◌<◌, [], ◌∷◌, List, Option, OnOk, OnErr, is_ok, if◌then◌else◌};
-    ghost use Rattle.run_files.specs.Shelves.{Takes};
-    ghost use Rattle.run_files.specs.StoredFiles.{StoredFile, stored_file};
+    ghost use Rattle.run_files.specs.WrittenOutputs.{Takes, StoredFile, stored_file};
 
     ghost files: { Self → Option (List StoredFile) };
 
@@ -38,8 +37,8 @@ pub struct MemoryFile {
 }
 
 impl Model for MemoryFile {
-    ghost use Rattle.std.specs.String.{string_bytes};
-    ghost use Rattle.run_files.specs.StoredFiles.{StoredFile, stored_file};
+    ghost use Rattle.run_files.specs.Words.{string_bytes};
+    ghost use Rattle.run_files.specs.WrittenOutputs.{StoredFile, stored_file};
 
     ghost Value = { StoredFile };
 
@@ -72,7 +71,7 @@ pub struct MemoryShelf {
 }
 
 impl Model for MemoryShelf {
-    ghost use Rattle.run_files.specs.Shelves.{MemoryShelfView};
+    ghost use Rattle.run_files.specs.WrittenOutputs.{MemoryShelfView};
 
     ghost Value = { MemoryShelfView };
 
@@ -81,7 +80,7 @@ impl Model for MemoryShelf {
 
 impl MemoryShelf {
     ghost use Rattle.std.specs.Prelude.{◌≡◌, ◌++◌, [], ◌∷◌, is_ok, if◌then◌else◌};
-    ghost use Rattle.run_files.specs.StoredFiles.{stored_file};
+    ghost use Rattle.run_files.specs.WrittenOutputs.{stored_file};
 
     /// A shelf without files, of which no call has failed.
     pub fn new(alloc: Global) -> MemoryShelf

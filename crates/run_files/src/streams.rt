@@ -1,9 +1,6 @@
-//! Readers and writers that count their failed calls.
+//! Readers and writers that count their failed calls, and a reader whose bytes a writer gets too.
 ghost use Rattle.std.specs.Prelude.{◌≡◌, ◌+◌, ◌-◌, ◌^◌, ◌<◌, length, IfOk, is_ok, if◌then◌else◌, ℕ, ◌≤◌, List, OnOk, IfErr, IfSome, take, OnErr};
-ghost use Rattle.std.specs.Io.{ReadsAtMost, WritesAtMost};
-ghost use Rattle.std.specs.Io.KnownBytes.{ReadConsumes, WriteAppends, Consumes, IsAtEnd, Appends};
-ghost use Rattle.pcap_records.specs.Reading.{capture_limit};
-ghost use Rattle.run_files.specs.Streams.{StopsLoading, joined};
+ghost use Rattle.run_files.specs.{ReadsAtMost, WritesAtMost, ReadConsumes, WriteAppends, Consumes, IsAtEnd, Appends, capture_limit, StopsLoading, joined};
 
 use crate::error::RunFault;
 use crate::inputs::load_rest;
@@ -159,4 +156,23 @@ pub fn write_texts<W: Write>(writer: &mut Counted<W>, texts: &[&[u8]]) -> Result
         write_bytes(writer, text)?;
     }
     Ok(())
+}
+
+/// A reader that copies what it gives to a writer. Contracts see the reader only: the copy may be short.
+#[derive(Drop)]
+pub struct TeeReader<R, W> {
+    /// The reader that is read.
+    pub inner: R,
+    /// The writer that gets a copy. If a write fails or takes only a part, the rest of that read is not copied.
+    pub copy: W,
+}
+
+impl<R: Read, W: Write> Read for TeeReader<R, W> {
+    ghost remaining = { λ t. R.remaining t.inner };
+
+    fn read(&mut self, buf: &mut [u8]) -> io::Result<usize> {
+        let len = self.inner.read(buf)?;
+        let _ = self.copy.write(&buf[..len]);
+        Ok(len)
+    }
 }

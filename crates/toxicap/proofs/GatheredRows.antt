@@ -1,31 +1,57 @@
--- A row of deliveries is what its scenario answers, and its lists can be merged.
-use Rattle.std.proofs.Common.{◌≡◌, ◌<◌, ℕ, ◌+◌, List, [], ◌∷◌, ◌++◌, length, map, take, drop, get_or, arith, refl, sym, ap, ap₂, ◌∙◌, subst}
-use Rattle.std.specs.List.{All, enumerate_from, flat_map}
+-- Rows of deliveries, taken one after another: each is what its scenario answers, and its lists can be merged.
+use Rattle.std.proofs.Common.{◌≡◌, ◌<◌, ◌≤◌, ℕ, ◌+◌, List, [], ◌∷◌, ◌++◌, map, length, take, drop, get_or, sym, ap, ◌∙◌, arith, refl, ap₂, subst}
+use Rattle.std.proofs.lemmas.List.{length-append, length-drop, length-map, take_at, drop_at, take_more, drop_more, map_push}
+use Rattle.std.proofs.lemmas.List.FromFn.{get_or-enumerate_from, length-enumerate_from}
 use Rattle.std.proofs.lemmas.List.Elements.{All-nil, All-cons}
 use Rattle.std.proofs.lemmas.List.Folds.{flat_map-map}
-use Rattle.std.proofs.lemmas.List.FromFn.{length-enumerate_from}
-use Rattle.conn_table.specs.SeenCapture.{SeenCapture}
-use Rattle.conn_table.specs.IndexedSegments.{IndexedSegment, indexed_segments}
-use Rattle.conn_table.specs.Connections.{Connection, connection_of, beginnings, connections, unopened_count}
-use Rattle.reassembly.specs.Positions.{client_of, server_of, vlan_of}
-use Rattle.reassembly.specs.RecordedLines.{recorded_connection}
-use Rattle.toxic_defs.specs.DeliveredLines.{delivered_connection}
-use Rattle.segment_writer.specs.declared.framed.Framed.{Framed}
-use Rattle.segment_writer.specs.KeyOrder.{RisingIsSorted}
-use Rattle.segment_writer.specs.KeyLaws.{HasNoKeyTwice, KeysRise, AreNumbered, KeysStandOnce}
-use Rattle.segment_writer.specs.WrittenSegments.{WrittenConnection, sorted_by_key, written_segments}
-use Rattle.segment_writer.specs.WrittenConnections.{written_connection}
-use Rattle.time_merge.specs.MergedCapture.{all_segments, capture_of}
-use Rattle.report.specs.ReportText.{report_text}
-use Rattle.scenarios.specs.declared.proxies.Proxy.{Proxy}
-use Rattle.conn_workers.specs.MetProxies.{met_proxy}
-use Rattle.conn_workers.specs.Contributions.{Contribution, contribution, contribution_of}
-use Rattle.conn_workers.specs.DeliveryRows.{connections_of, delivery_of, rows}
-use Rattle.conn_workers.specs.declared.deliveries.Delivery.{Delivery}
-use Rattle.run_files.specs.declared.outputs.Output.{Output}
-use Rattle.toxicap.specs.GatheredOutputs.{segments_in, lines_in, gathered_output}
-use Rattle.toxicap.specs.Rehearsal.{contributions, scenario_output}
-use Rattle.toxicap.proofs.RowSteps.{row_taken, own_number}
+use Rattle.toxicap.specs.{enumerate_from, All, flat_map, rows, connections_of, delivery_of, SeenCapture, IndexedSegment, indexed_segments, Connection}
+use Rattle.toxicap.specs.{connection_of, beginnings, connections, unopened_count, client_of, server_of, vlan_of, recorded_connection, delivered_connection}
+use Rattle.toxicap.specs.{Framed, RisingIsSorted, HasNoKeyTwice, KeysRise, AreNumbered, KeysStandOnce, WrittenConnection, sorted_by_key, written_segments}
+use Rattle.toxicap.specs.{written_connection, all_segments, capture_of, report_text, Proxy, met_proxy, Contribution, contribution, contribution_of, Delivery}
+use Rattle.toxicap.specs.{Output, segments_in, lines_in, gathered_output, contributions, scenario_output}
+
+-- ---- rows that are taken one after another
+
+module _ {R C V : Type 0} (f : R → C → V) (rs : List R) (cs : List C) (i : ℕ) (d : R) (within : i < length rs) where
+  first_and_rest : rows f (drop i rs) cs ≡ map (f (get_or rs i d)) cs ++ rows f (drop (i + 1) rs) cs
+  first_and_rest = ap (λ left. rows f left cs) (drop_more rs i d within)
+
+  width : length (map (f (get_or rs i d)) cs) ≡ length cs
+  width = length-map cs (f (get_or rs i d))
+
+  -- the next row, what is left after it, and that it is there
+  pub row_taken : take (length cs) (rows f (drop i rs) cs) ≡ map (f (get_or rs i d)) cs
+  row_taken = ap (take (length cs)) first_and_rest ∙ take_at (map (f (get_or rs i d)) cs) (rows f (drop (i + 1) rs) cs) (length cs) width
+
+  pub row_left : drop (length cs) (rows f (drop i rs) cs) ≡ rows f (drop (i + 1) rs) cs
+  row_left = ap (drop (length cs)) first_and_rest ∙ drop_at (map (f (get_or rs i d)) cs) (rows f (drop (i + 1) rs) cs) (length cs) width
+
+  pub row_fits : length cs ≤ length (rows f (drop i rs) cs)
+  row_fits = omega (arith, ap length first_and_rest, length-append (map (f (get_or rs i d)) cs) (rows f (drop (i + 1) rs) cs), width)
+
+pub own_number : {A : Type 0} (xs : List A) (i : ℕ) (d : ℕ × A) → i < length xs → (get_or (enumerate_from 0 xs) i d).0 ≡ i
+own_number xs i d within = ap (λ p. p.0) (get_or-enumerate_from 0 xs i d within) ∙ (let e : 0 + i ≡ i = omega arith in e)
+
+-- the first of what is left is one more of what is taken
+pub record TakesOne {X : Type 0} (xs : List X) (i : ℕ) (x : X) (left : List X) : Type 0 where
+  pub taken : take (i + 1) xs ≡ take i xs ++ x ∷ []
+  pub rest : left ≡ drop (i + 1) xs
+
+pub takes_one : {X : Type 0} (xs : List X) (i : ℕ) (x : X) (left : List X) → drop i xs ≡ x ∷ left → TakesOne xs i x left
+takes_one {X} xs i x left is =
+    let within : i < length xs = omega (arith, length-drop i xs, ap length is) in
+    let both : get_or xs i x ∷ drop (i + 1) xs ≡ x ∷ left = sym (drop_more xs i x within) ∙ is in
+    let first : get_or xs i x ≡ x = cc in
+    let others : left ≡ drop (i + 1) xs = cc in
+    record { taken = take_more xs i x within ∙ ap (λ (y : X). take i xs ++ y ∷ []) first; rest = others }
+
+pub mapped_push : {A B : Type 0} (f : A → B) (xs : List A) (i : ℕ) (x : A) → take (i + 1) xs ≡ take i xs ++ x ∷ [] → map f (take i xs) ++ f x ∷ [] ≡ map f (take (i + 1) xs)
+mapped_push f xs i x is = sym (map_push f (take i xs) x) ∙ ap (map f) (sym is)
+
+pub mapped_more : {A B : Type 0} (f : A → B) (xs : List A) (i : ℕ) (d : A) → i < length xs → map f (take i xs) ++ f (get_or xs i d) ∷ [] ≡ map f (take (i + 1) xs)
+mapped_more f xs i d within = mapped_push f xs i (get_or xs i d) (take_more xs i d within)
+
+-- ---- what a row of deliveries answers
 
 module _ (ticks seed : ℕ) (s : ℕ × List Proxy) where
   -- a connection as it is written under the scenario

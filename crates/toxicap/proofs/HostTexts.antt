@@ -1,19 +1,15 @@
 -- A text that writes a host is ASCII, and so UTF-8.
-use Rattle.std.proofs.Common.{◌≡◌, ◌<◌, ℕ, ◌+◌, ◌==◌, suc, Bool, true, false, List, [], ◌∷◌, length, take, drop, get_or, Option, Some, None, option_map, option_and_then, refl, sym, subst, arith, if◌then◌else◌, ◌&&◌}
+use Rattle.std.proofs.Common.{◌≡◌, ◌<◌, ℕ, ◌+◌, ◌==◌, suc, Bool, true, false, List, [], ◌∷◌, length, take, drop, get_or, Option, Some, None, option_map}
+use Rattle.std.proofs.Common.{option_and_then, refl, sym, subst, arith, if◌then◌else◌, ◌&&◌}
 use Rattle.std.specs.Prelude.{IsAscii, IsUtf8, position, codes, decimal, is_none}
-use Rattle.std.specs.List.{list_all}
-use Rattle.std.specs.Net.Grammar.{IsDotted}
-use Rattle.std.specs.Net.Text.{dotted_text}
 use Rattle.std.proofs.lemmas.Bool.{and_parts, eqb-true}
 use Rattle.std.proofs.lemmas.Fmt.{IsAscii-decimal}
 use Rattle.std.proofs.lemmas.List.Quantifiers.{position-Some}
 use Rattle.std.proofs.lemmas.Str.{IsAscii-append, IsUtf8-from_ascii}
 use Rattle.std.proofs.lemmas.Str.Ascii.{IsAscii-nil, IsAscii-cons}
 use Rattle.std.proofs.Math.Seq.{split_at}
-use Rattle.scenarios.specs.declared.hosts.KnownHost.{KnownHost}
-use Rattle.scenarios.specs.Hosts.{address, is_name_byte, is_host_name, look_up, host_for}
-use Rattle.scenarios.specs.ProxyLaws.{AddressesAreDotted}
-use Rattle.toxicap.specs.Inputs.{equals_sign, host_written}
+use Rattle.toxicap.specs.{list_all, IsDotted, dotted_text, KnownHost, address, is_name_byte, is_host_name, look_up, host_for, AddressesAreDotted, equals_sign}
+use Rattle.toxicap.specs.{host_written}
 
 name_byte_is_ascii : (b : ℕ) → is_name_byte b ≡ true → b < 128
 name_byte_is_ascii b is = grind (arith, is)

@@ -1,42 +1,20 @@
 -- What other connections meet changes no line of a report and no record between the ends of a connection.
-use Rattle.std.proofs.Common.{◌≡◌, ◌≤◌, ℕ, zero, suc, ◌+◌, Bool, true, false, nat_lt, cond, List, [], ◌∷◌, ◌++◌, length, map, filter, Option, Some, Ok, Err, inl, inr, refl, sym, ap, ap₂, ◌∙◌, subst, arith, if◌then◌else◌}
+use Rattle.std.proofs.Common.{◌≡◌, ◌≤◌, ℕ, zero, suc, ◌+◌, Bool, true, false, nat_lt, cond, List, [], ◌∷◌, ◌++◌, length, map, filter, Option, Some, Ok, Err}
+use Rattle.std.proofs.Common.{inl, inr, refl, sym, ap, ap₂, ◌∙◌, subst, arith, if◌then◌else◌}
 use Rattle.std.specs.Prelude.{slice_get}
-use Rattle.std.specs.List.{AllByRecursion, enumerate_from, flat_map}
 use Rattle.std.proofs.Math.Bool.{or_comm}
 use Rattle.std.proofs.lemmas.Bool.{ltb-false}
 use Rattle.std.proofs.lemmas.List.Elements.{filter-append}
 use Rattle.std.proofs.lemmas.Simd.{map-map}
-use Rattle.pcap_records.specs.declared.fault.CaptureFault.TheVariants.{CaptureTooLong, ShortHeader}
-use Rattle.pcap_records.specs.declared.unit.Unit.{Unit}
-use Rattle.pcap_records.specs.Instants.{ticks_of}
-use Rattle.pcap_records.specs.Reading.{Reading, capture_limit, file_header_len, magic_heading, checked_heading, file_heading, reading}
-use Rattle.pcap_records.specs.Writing.{WrittenIsRead}
-use Rattle.pcap_records.specs.Grammar.{ReadingsSplit}
-use Rattle.frame_headers.specs.Frame.{segment_fields}
-use Rattle.frame_headers.specs.HeaderLaws.{HeadersAreSound, SegmentsFit}
-use Rattle.conn_table.specs.SeenCapture.{SeenCapture, seen_capture}
-use Rattle.conn_table.specs.IndexedSegments.{indexed_segments}
-use Rattle.conn_table.specs.Connections.{Connection, unopened_count}
-use Rattle.reassembly.specs.Positions.{server_of}
-use Rattle.toxic_defs.specs.DeliveredLines.{MetProxy, DeliveredConnection}
-use Rattle.segment_writer.specs.declared.framed.Framed.{Framed}
-use Rattle.segment_writer.specs.WrittenSegments.{is_key_below, below, insert_by_key, sorted_by_key}
-use Rattle.segment_writer.specs.KeyLaws.{NeverFalls, SortedNeverFalls}
-use Rattle.segment_writer.specs.OrderedLists.{NoneBelow}
-use Rattle.time_merge.specs.MergedCapture.{capture_of}
-use Rattle.scenarios.specs.declared.proxies.Proxy.{Proxy}
-use Rattle.conn_workers.specs.Contributions.{contribution, contribution_of}
-use Rattle.conn_workers.specs.MetProxies.{met_proxy}
-use Rattle.conn_workers.specs.DeliveryRows.{connections_of}
-use Rattle.run_files.specs.declared.error.RunFault.TheVariants.{TooManyScenarios}
-use Rattle.run_files.specs.declared.outputs.Output.{Output}
-use Rattle.toxicap.specs.Rehearsal.{scenario_output, outputs_of, scenario_limit, answer}
-use Rattle.toxicap.specs.IsolatedOutputs.{IsOutput, HaveSameLine, HaveSameRecords, line_of, is_between, packets_between}
-use Rattle.toxicap.specs.SoundOutputs.{AreBytes}
-use Rattle.toxicap.proofs.EachElement.{each_filtered}
-use Rattle.toxicap.proofs.ReadTicks.{reading_unit}
+use Rattle.pcap_records.specs.declared.fault.CaptureFault.TheVariants.{CaptureTooLong}
+use Rattle.toxicap.specs.{AllByRecursion, enumerate_from, flat_map, ShortHeader, Unit, ticks_of, Reading, capture_limit, file_header_len, magic_heading}
+use Rattle.toxicap.specs.{checked_heading, file_heading, reading, WrittenIsRead, ReadingsSplit, segment_fields, HeadersAreSound, SegmentsFit, SeenCapture}
+use Rattle.toxicap.specs.{seen_capture, indexed_segments, Connection, unopened_count, server_of, MetProxy, DeliveredConnection, Framed, is_key_below, below}
+use Rattle.toxicap.specs.{insert_by_key, sorted_by_key, NeverFalls, SortedNeverFalls, NoneBelow, capture_of, Proxy, contribution, contribution_of, met_proxy}
+use Rattle.toxicap.specs.{connections_of, TooManyScenarios, Output, scenario_output, outputs_of, scenario_limit, answer, IsOutput, HaveSameLine}
+use Rattle.toxicap.specs.{HaveSameRecords, line_of, is_between, packets_between, AreBytes}
+use Rattle.toxicap.proofs.ReadCaptures.{each_filtered, reading_unit, IsSoundConnection, packets_have, connections_are}
 use Rattle.toxicap.proofs.WrittenFrames.{HasEnds, IsWritten}
-use Rattle.toxicap.proofs.SoundConnections.{IsSoundConnection, packets_have, connections_are}
 use Rattle.toxicap.proofs.OutputsRead.{packet_of, frame_is, IsOfSome, reading_of, capture_reading, written_of, part_is, parts_are}
 use Rattle.toxicap.proofs.ReportLines.{is_line, line_body, connection_is, line_in_report}
 

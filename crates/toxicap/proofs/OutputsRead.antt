@@ -1,36 +1,15 @@
 -- Output captures are read back whole.
-use Rattle.std.proofs.Common.{◌≡◌, ◌≤◌, ℕ, ◌+◌, Bool, true, false, ◌||◌, nat_lt, List, [], ◌∷◌, ◌++◌, length, map, drop, Ok, Err, refl, sym, ap, ap₂, ◌∙◌, subst, arith, if◌then◌else◌}
-use Rattle.std.specs.List.{AllByRecursion, enumerate_from, flat_map}
+use Rattle.std.proofs.Common.{◌≡◌, ◌≤◌, ℕ, ◌+◌, Bool, true, false, ◌||◌, nat_lt, List, [], ◌∷◌, ◌++◌, length, map, drop, Ok, Err, refl, sym, ap, ap₂, ◌∙◌}
+use Rattle.std.proofs.Common.{subst, arith, if◌then◌else◌}
 use Rattle.std.proofs.lemmas.Bool.{ltb-false}
-use Rattle.pcap_records.specs.declared.unit.Unit.{Unit}
-use Rattle.pcap_records.specs.Instants.{ticks_of}
-use Rattle.pcap_records.specs.declared.heading.Order.TheVariants.{Little}
-use Rattle.pcap_records.specs.Reading.{Packet, Contents, Reading, capture_limit, reading, record_header_len}
-use Rattle.pcap_records.specs.Writing.{file_header, record_bytes, record_header, written_capture, IsWritable, WrittenIsRead}
-use Rattle.pcap_records.specs.Grammar.{ReadingsSplit}
-use Rattle.frame_headers.specs.HeaderLaws.{HeadersAreSound, SegmentsFit}
-use Rattle.run_files.specs.declared.error.RunFault.TheVariants.{TooManyScenarios}
-use Rattle.segment_writer.specs.declared.framed.Framed.{Framed}
-use Rattle.scenarios.specs.declared.proxies.Proxy.{Proxy}
-use Rattle.conn_table.specs.IndexedSegments.{indexed_segments}
-use Rattle.conn_table.specs.Connections.{Connection, connections}
-use Rattle.segment_writer.specs.WrittenSegments.{WrittenConnection, below, sorted_by_key}
-use Rattle.time_merge.specs.MergedCapture.{capture_of}
-use Rattle.reassembly.specs.Positions.{client_of, server_of, vlan_of}
-use Rattle.reassembly.specs.RecordedLines.{recorded_connection}
-use Rattle.toxic_defs.specs.DeliveredLines.{DeliveredConnection, delivered_connection}
-use Rattle.segment_writer.specs.WrittenConnections.{written_connection}
-use Rattle.segment_writer.specs.KeyLaws.{NeverFalls, SortedNeverFalls}
-use Rattle.segment_writer.specs.OrderedLists.{NoneBelow}
-use Rattle.conn_workers.specs.MetProxies.{met_proxy}
-use Rattle.conn_workers.specs.Contributions.{contribution, contribution_of}
-use Rattle.conn_table.specs.SeenCapture.{SeenCapture, seen_packets, seen_capture}
-use Rattle.toxicap.specs.Rehearsal.{scenario_output, outputs_of, scenario_limit, answer}
-use Rattle.toxicap.specs.SoundOutputs.{NeverFall, IsSoundFrame, IsReadWhole, OutputsAreRead}
-use Rattle.toxicap.proofs.EachElement.{each_of_both}
-use Rattle.toxicap.proofs.ReadTicks.{reading_unit}
+use Rattle.toxicap.specs.{AllByRecursion, enumerate_from, flat_map, Unit, ticks_of, Little, Packet, Contents, Reading, capture_limit, reading}
+use Rattle.toxicap.specs.{record_header_len, file_header, record_bytes, record_header, written_capture, IsWritable, WrittenIsRead, ReadingsSplit}
+use Rattle.toxicap.specs.{HeadersAreSound, SegmentsFit, TooManyScenarios, Framed, Proxy, indexed_segments, Connection, connections, WrittenConnection, below}
+use Rattle.toxicap.specs.{sorted_by_key, capture_of, client_of, server_of, vlan_of, recorded_connection, DeliveredConnection, delivered_connection}
+use Rattle.toxicap.specs.{written_connection, NeverFalls, SortedNeverFalls, NoneBelow, met_proxy, contribution, contribution_of, SeenCapture, seen_packets}
+use Rattle.toxicap.specs.{seen_capture, scenario_output, outputs_of, scenario_limit, answer, NeverFall, IsSoundFrame, IsReadWhole, OutputsAreRead}
+use Rattle.toxicap.proofs.ReadCaptures.{each_of_both, reading_unit, HasBytes, IsSoundConnection, packets_have, connections_are, server_base_fits}
 use Rattle.toxicap.proofs.WrittenFrames.{IsSoundWritten, IsWritten, all-sorted_by_key, segments_are}
-use Rattle.toxicap.proofs.SoundConnections.{HasBytes, IsSoundConnection, packets_have, connections_are, server_base_fits}
 
 -- ---- packets of written segments
 

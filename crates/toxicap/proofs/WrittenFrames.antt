@@ -1,21 +1,14 @@
 -- Each written segment is a record before the horizon whose frame is a TCP segment with both checksums right.
-use Rattle.std.proofs.Common.{◌≡◌, ◌≢◌, ◌<◌, ◌≤◌, ◌⊎◌, inl, inr, ℕ, zero, suc, ◌+◌, ◌-◌, ◌^◌, ◌==◌, Bool, true, false, ◌||◌, nat_lt, Option, Some, None, List, [], ◌∷◌, ◌++◌, length, map, refl, sym, ap, arith, length-append, if◌then◌else◌}
-use Rattle.std.specs.List.{AllByRecursion, enumerate_from}
+use Rattle.std.proofs.Common.{◌≡◌, ◌≢◌, ◌<◌, ◌≤◌, ◌⊎◌, inl, inr, ℕ, zero, suc, ◌+◌, ◌-◌, ◌^◌, ◌==◌, Bool, true, false, ◌||◌, nat_lt, Option, Some, None, List}
+use Rattle.std.proofs.Common.{[], ◌∷◌, ◌++◌, length, map, refl, sym, ap, arith, length-append, if◌then◌else◌}
 use Rattle.std.proofs.lemmas.Bool.{ltb-true, or_parts}
-use Rattle.pcap_records.specs.Instants.{horizon}
-use Rattle.pcap_records.specs.Reading.{packet_limit}
-use Rattle.pcap_records.specs.Writing.{record_bytes}
+use Rattle.toxicap.specs.{AllByRecursion, enumerate_from, horizon, packet_limit, record_bytes, SegmentFields, segment_fields, IsHeader, IsVlan, HeadersAreSound}
+use Rattle.toxicap.specs.{headers, headers_len, payload_limit, Header, Framed, LineByte, End, live, fin, close, reset, Host, WrittenSide, WrittenConnection}
+use Rattle.toxicap.specs.{SentSegment, Piece, is_chunk_border, pieces_led_by, pieces, end_segments, segments_sent_from, segments_sent_by, frame_bytes}
+use Rattle.toxicap.specs.{framed_segment, header_of, syn_segment, syn_ack_segment, ack_segment, refusal_segment, framed_by_client, framed_by_server}
+use Rattle.toxicap.specs.{opening_turn, up_turn, down_turn, insert_by_key, is_key_below, sorted_by_key, segments_before_horizon, written_segments, IsSoundFrame}
+use Rattle.toxicap.proofs.ReadCaptures.{each_of_both}
 use Rattle.frame_headers.specs.Flags
-use Rattle.frame_headers.specs.Frame.{SegmentFields, segment_fields}
-use Rattle.frame_headers.specs.HeaderLaws.{IsHeader, IsVlan, HeadersAreSound}
-use Rattle.frame_headers.specs.Headers.{headers}
-use Rattle.frame_headers.specs.Layout.{headers_len, payload_limit}
-use Rattle.frame_headers.specs.declared.written.Header.{Header}
-use Rattle.segment_writer.specs.declared.framed.Framed.{Framed}
-use Rattle.reassembly.specs.RecordedLines.{LineByte, End, live, fin, close, reset}
-use Rattle.segment_writer.specs.WrittenSegments.{Host, WrittenSide, WrittenConnection, SentSegment, Piece, is_chunk_border, pieces_led_by, pieces, end_segments, segments_sent_from, segments_sent_by, frame_bytes, framed_segment, header_of, syn_segment, syn_ack_segment, ack_segment, refusal_segment, framed_by_client, framed_by_server, opening_turn, up_turn, down_turn, insert_by_key, is_key_below, sorted_by_key, segments_before_horizon, written_segments}
-use Rattle.toxicap.specs.SoundOutputs.{IsSoundFrame}
-use Rattle.toxicap.proofs.EachElement.{each_of_both}
 
 -- ---- the record of a segment
 

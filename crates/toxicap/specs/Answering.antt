@@ -1,18 +1,8 @@
--- From the text of a capture and the texts of scenarios to what a rehearsal takes, and to what each scenario answers.
+-- From the text of a capture and the texts of scenarios to what a rehearsal takes, to what each scenario answers, and to the summary of the run.
 use Rattle.std.specs.Prelude.{ℕ, nat_lt, if◌then◌else◌, List, [], ◌∷◌, ◌++◌, length, IfErr, Result, Ok, Err}
-use Rattle.pcap_records.specs.declared.fault.CaptureFault.{CaptureFault}
-use Rattle.pcap_records.specs.Reading.{capture_limit, reading}
-use Rattle.conn_table.specs.SeenCapture.{SeenCapture}
-use Rattle.scenarios.specs.Refusals.{and_then}
-use Rattle.scenarios.specs.Populate.{scenario}
-use Rattle.scenarios.specs.declared.error.Refusal.{Refusal}
-use Rattle.scenarios.specs.declared.hosts.KnownHost.{KnownHost}
-use Rattle.scenarios.specs.declared.proxies.Proxy.{Proxy}
-use Rattle.run_files.specs.declared.error.RunFault.{RunFault}
-use Rattle.run_files.specs.declared.error.RunFault.TheVariants.{BadHost, BadScenario, CaptureTooLong, ReadFailed, ShelfFailed, TooManyScenarios, WriteFailed}
-use Rattle.run_files.specs.declared.outputs.Output.{Output}
-use Rattle.run_files.specs.Dumps.{is_dump, dump_reading}
-use Rattle.run_files.specs.RunFault.{run_fault}
+use Rattle.toxicap.specs.Words.{CaptureFault, capture_limit, reading, SeenCapture, and_then, scenario, Refusal, KnownHost, Proxy, RunFault, BadHost}
+use Rattle.toxicap.specs.Words.{BadScenario, CaptureTooLong, ReadFailed, ShelfFailed, TooManyScenarios, WriteFailed, Output, is_dump, dump_reading, run_fault}
+use Rattle.toxicap.specs.Words.{run_summary, RunSummary}
 use Rattle.toxicap.specs.Rehearsal.{answer, scenario_limit, seen_file}
 use Rattle.toxicap.specs.declared.reading.Inputs.{Inputs}
 
@@ -49,8 +39,8 @@ abbrev pub made_of : {A : Type 0} → (SeenCapture → List (List Proxy) → ℕ
 made_of make i = if nat_lt scenario_limit (length i.scenarios) then Err TooManyScenarios else made_by make (seen_file (reading i.capture)) i.scenarios i.seed
 
 -- what a text calls for, or the first refusal: of what is read, or of the rehearsal
-abbrev pub called_for : List KnownHost → List (List ℕ) → ℕ → List ℕ → Result (List Output) RunFault
-called_for hosts texts seed text = and_then (inputs_from hosts texts seed text) answer_of
+abbrev pub answer_of_texts : List KnownHost → List (List ℕ) → ℕ → List ℕ → Result (List Output) RunFault
+answer_of_texts hosts texts seed text = and_then (inputs_from hosts texts seed text) answer_of
 
 -- a fault of the texts: no call of a reader, a writer or a shelf has failed, and no host is refused
 abbrev pub IsOfText : RunFault → Type 0
@@ -62,4 +52,19 @@ IsOfText _ = Unit {0}
 
 -- what a text calls for is refused by no other fault
 abbrev pub RefusedByTexts : Type 0
-RefusedByTexts = (hosts : List KnownHost) (texts : List (List ℕ)) (seed : ℕ) (text : List ℕ) → IfErr (called_for hosts texts seed text) IsOfText
+RefusedByTexts = (hosts : List KnownHost) (texts : List (List ℕ)) (seed : ℕ) (text : List ℕ) → IfErr (answer_of_texts hosts texts seed text) IsOfText
+
+-- ---- the summary that a run calls for; it has no limit of scenarios: a run with too many does not end well
+
+-- by what is seen of a capture, or its fault
+abbrev pub summary_in : Result SeenCapture CaptureFault → List (List Proxy) → Result RunSummary RunFault
+summary_in (Ok c) scenarios = Ok (run_summary c scenarios)
+summary_in (Err f) scenarios = Err (run_fault f)
+
+abbrev pub summary_of_bytes : List ℕ → List (List Proxy) → Result RunSummary RunFault
+summary_of_bytes bytes scenarios = summary_in (seen_file (reading bytes)) scenarios
+
+-- by the scenarios' texts with these hosts, and the capture's text
+abbrev pub summary_of_texts : List KnownHost → List (List ℕ) → List ℕ → Result RunSummary RunFault
+summary_of_texts hosts texts text =
+    and_then (capture_bytes_of text) (λ bytes. and_then (scenarios_from hosts [] texts) (summary_of_bytes bytes))

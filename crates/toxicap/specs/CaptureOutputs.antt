@@ -1,19 +1,11 @@
 -- What each scenario answers to a capture that was read, and to the sources that are made of it.
 use Rattle.std.specs.Prelude.{ℕ, List, [], ◌++◌, get_or, map}
-use Rattle.std.specs.List.{enumerate_from, flat_map}
-use Rattle.pcap_records.specs.CaptureView.{CaptureView, contents_of}
-use Rattle.pcap_records.specs.Instants.{ticks_of}
-use Rattle.conn_table.specs.SeenCapture.{seen_capture}
-use Rattle.time_merge.specs.MergedCapture.{capture_of}
-use Rattle.scenarios.specs.declared.proxies.Proxy.{Proxy}
-use Rattle.conn_workers.specs.declared.deliveries.Delivery.{Delivery}
-use Rattle.conn_workers.specs.Recordings.{recorded_row}
-use Rattle.run_files.specs.declared.outputs.Output.{Output}
+use Rattle.toxicap.specs.Words.{enumerate_from, flat_map, CaptureView, contents_of, ticks_of, seen_capture, capture_of, Proxy, Delivery, recorded_row, Output}
 use Rattle.toxicap.specs.Rehearsal.{outputs_of}
 use Rattle.toxicap.specs.declared.sources.Sources.{Sources}
 
-abbrev pub outputs_for : CaptureView → List (List Proxy) → ℕ → List Output
-outputs_for capture scenarios seed = outputs_of (seen_capture (contents_of capture)) scenarios seed
+abbrev pub outputs_of_capture : CaptureView → List (List Proxy) → ℕ → List Output
+outputs_of_capture capture scenarios seed = outputs_of (seen_capture (contents_of capture)) scenarios seed
 
 abbrev pub no_output : Output
 no_output = record { capture = []; report = [] }
@@ -30,5 +22,5 @@ output_from own s = record {
   report = get_or own.heads.now s.0 [] ++ flat_map (λ d. d.line) (row_from own s);
 }
 
-abbrev pub outputs_from : Sources → List Output
-outputs_from own = map (output_from own) (enumerate_from 0 own.scenarios.now)
+abbrev pub outputs_of_sources : Sources → List Output
+outputs_of_sources own = map (output_from own) (enumerate_from 0 own.scenarios.now)

@@ -9,61 +9,54 @@
 --   6. a scenario is refused, the first in order (`scenarios_from`, in Answering);
 --   7. there are too many scenarios (`answer`, in Rehearsal);
 --   8. the capture's own faults, in the order of `reading` (pcap_records, Reading);
---   9. writing the reports fails (`WritesText`, in RunEnds), or a file cannot be stored (`StoresFiles`, in StoredOutputs).
+--   9. writing the reports fails (`WritesText`, in RunEnds), or a file cannot be stored (`StoresFiles`, in RunEnds).
 -- Out of memory may come at any step. Then no byte of a report is printed; some files may be stored.
 use Rattle.std.specs.Prelude.{◌≡◌, ℕ, List, Option, Some, None, Result, Ok, Err, IfOk}
-use Rattle.std.specs.Borrow.{Bor}
-use Rattle.std.specs.String.{string_bytes}
-use Rattle.command_line.specs.declared.asked.Asked.{Asked}
-use Rattle.command_line.specs.declared.error.Stop.{Stop}
-use Rattle.command_line.specs.declared.error.Stop.TheVariants as stop
-use Rattle.conn_workers.specs.declared.summaries.RunSummary.{RunSummary}
-use Rattle.run_files.specs.declared.error.RunFault.{RunFault}
-use Rattle.run_files.specs.declared.error.RunFault.TheVariants.{Memory}
-use Rattle.run_files.specs.declared.outputs.Output.{Output}
-use Rattle.run_files.specs.Folders.{failed_stores}
-use Rattle.run_files.specs.Streams.{CountedView}
-use Rattle.toxicap.specs.Answering.{called_for}
+use Rattle.toxicap.specs.Words.{Bor, string_bytes, Asked, Stop, RunSummary, RunFault, Memory, Output, failed_stores, CountedView}
+use Rattle.toxicap.specs.Answering.{answer_of_texts, summary_of_texts}
 use Rattle.toxicap.specs.Inputs.{LoadedBy, LoadsCapture, LoadsFiles, hosts_asked, texts_or_no_proxies}
 use Rattle.toxicap.specs.PrintedReports.{PrintsOf}
-use Rattle.toxicap.specs.RunEnds.{Step, Tells, UnlessMemory, WritesText, Written, WrittenSoFar, status_of, usage_status, without_value, written}
-use Rattle.toxicap.specs.RunSummaries.{summary_of_texts}
-use Rattle.toxicap.specs.StoredOutputs.{StoresIn, DiskHistories}
+use Rattle.toxicap.specs.RunEnds.{Step, Tells, UnlessMemory, WritesText, Written, WrittenSoFar, status_of, usage_status, without_value, written, StoresIn}
+use Rattle.toxicap.specs.RunEnds.{DiskHistories}
+use Rattle.command_line.specs.declared.error.Stop.TheVariants as stop
 
--- Statements about the reader and the writer that a run has for standard input and output. `Unread`: the reader is as it was. `Loaded`: loading
+-- Statements about the reader and the writer that a run has for standard input and output. `InputUnread`: the reader is as it was. `Loaded`: loading
 -- from it gave this text, or this fault. `output`: what was written. Nothing is said of a path of the disk that leads to standard input, such as
 -- `/dev/stdin`.
 pub record Streams : Type 1 where
-  pub Unread : Type 0
+  pub InputUnread : Type 0
   pub Loaded : Result (List ℕ) RunFault → Type 0
   pub output : Written
 
--- The streams of a run. `r` and `r2` are the reader before and after, and `remaining` gives the bytes that it has left. `w` and `w2` are the writer
--- before and after, and `contents` gives the bytes that it holds.
+-- The streams of a run: `remaining` gives the bytes that a reader has left, and `contents` those that a writer holds.
 abbrev pub streams : {R W : Type 0} → (R → Option (List ℕ)) → CountedView R → CountedView R → (W → Option (List ℕ)) → CountedView W → CountedView W → Streams
-streams remaining r r2 contents w w2 = record { Unread = r2 ≡ r; Loaded = LoadedBy remaining r r2; output = written contents w w2 }
+streams remaining reader_before reader_after contents writer_before writer_after = record {
+  InputUnread = reader_after ≡ reader_before;
+  Loaded = LoadedBy remaining reader_before reader_after;
+  output = written contents writer_before writer_after;
+}
 
 -- nothing was written, and as far as the disk tells no file was published
-abbrev pub Unchanged : DiskHistories → Streams → Type 0
-Unchanged disk s = s.output.Unwritten × (disk.after ≡ disk.before)
+abbrev pub NoOutput : DiskHistories → Streams → Type 0
+NoOutput disk s = s.output.NothingWritten × (disk.after ≡ disk.before)
 
 -- and standard input was not read; scenario files may have been
-abbrev pub Untouched : DiskHistories → Streams → Type 0
-Untouched disk s = s.Unread × Unchanged disk s
+abbrev pub NoInputNoOutput : DiskHistories → Streams → Type 0
+NoInputNoOutput disk s = s.InputUnread × NoOutput disk s
 
 -- Without a folder the reports are printed. With one the outputs are stored, and nothing is printed.
-abbrev pub AnswersInto : Option (Bor (List ℕ)) → Result (Unit {0}) RunFault → Result (List Output) RunFault → DiskHistories → Streams → Type 0
-AnswersInto None outcome expected disk s = PrintsOf outcome expected s.output × (disk.after ≡ disk.before)
-AnswersInto (Some folder) outcome expected disk s = StoresIn folder.now outcome expected disk × s.output.Unwritten
+abbrev pub PrintsOrStores : Option (Bor (List ℕ)) → Result (Unit {0}) RunFault → Result (List Output) RunFault → DiskHistories → Streams → Type 0
+PrintsOrStores None outcome expected disk s = PrintsOf outcome expected s.output × (disk.after ≡ disk.before)
+PrintsOrStores (Some folder) outcome expected disk s = StoresIn folder.now outcome expected disk × s.output.NothingWritten
 
 -- The steps of a run, and how it ends: it reads the hosts, loads the scenario files and then the capture, and answers what the capture's text
 -- calls for. The fault of a step is the outcome. A run that ends well gives the summary of the same texts.
 abbrev pub RunsBy : Asked → Result RunSummary RunFault → DiskHistories → Streams → Type 0
 RunsBy asked outcome disk s =
-    Step (UnlessMemory (hosts_asked asked)) outcome (Untouched disk s) (λ hosts.
-    Step (LoadsFiles disk.before asked.scenarios.items) outcome (Untouched disk s) (λ files.
-    Step (LoadsCapture disk.before asked.capture s.Unread s.Loaded) outcome (Unchanged disk s) (λ text.
-    AnswersInto asked.out (without_value outcome) (called_for hosts (texts_or_no_proxies files) asked.seed text) disk s
+    Step (UnlessMemory (hosts_asked asked)) outcome (NoInputNoOutput disk s) (λ hosts.
+    Step (LoadsFiles disk.before asked.scenarios.items) outcome (NoInputNoOutput disk s) (λ files.
+    Step (LoadsCapture disk.before asked.capture s.InputUnread s.Loaded) outcome (NoOutput disk s) (λ text.
+    PrintsOrStores asked.out (without_value outcome) (answer_of_texts hosts (texts_or_no_proxies files) asked.seed text) disk s
     × IfOk outcome (λ summary. summary_of_texts hosts (texts_or_no_proxies files) text ≡ Ok summary))))
 
 -- the outcome of a command, from that of its run
@@ -71,19 +64,21 @@ abbrev pub of_run : Result RunSummary RunFault → Result (Option RunSummary) Ru
 of_run (Ok summary) = Ok (Some summary)
 of_run (Err fault) = Err fault
 
--- how the program ends, except for a usage fault, which `ProgramEnds` has; `Shown` is help or the version
-abbrev pub CommandEnds : Result Asked Stop → Result (Option RunSummary) RunFault → DiskHistories → Streams → Type 0
-CommandEnds (Ok asked) outcome disk s = (run : Result RunSummary RunFault) × (outcome ≡ of_run run) × RunsBy asked run disk s
-CommandEnds (Err (stop.Shown text)) outcome disk s = WritesText (without_value outcome) (string_bytes text) s.output × IfOk outcome (λ summary. summary ≡ None) × s.Unread × (disk.after ≡ disk.before)
-CommandEnds (Err (stop.Usage text)) outcome disk s = ⊥
-CommandEnds (Err stop.Memory) outcome disk s = (outcome ≡ Err Memory) × Untouched disk s
+-- it ended so, with this outcome, which is told and has this status
+abbrev pub EndsWith : Type 0 → ℕ → Result (Option RunSummary) RunFault → Written → Type 0
+EndsWith Ended status outcome faults = Ended × (status ≡ status_of outcome) × Tells outcome faults
 
--- The exit status of the program, and the outcome that it stands for. A usage fault has the outcome Ok None, since no run was begun: its status, 2,
--- and its text tell it. Nothing is read, and only that text is written.
+-- The exit status of the program, and the outcome that it stands for; `Shown` is help or the version. A usage fault has the outcome Ok None, since
+-- no run was begun: its status, 2, and its text tell it. Nothing is read, and only that text is written.
 abbrev pub ProgramEnds : Result Asked Stop → ℕ → Result (Option RunSummary) RunFault → DiskHistories → Streams → Written → Type 0
+ProgramEnds (Ok asked) status outcome disk s faults =
+    EndsWith ((run : Result RunSummary RunFault) × (outcome ≡ of_run run) × RunsBy asked run disk s) status outcome faults
+ProgramEnds (Err (stop.Shown text)) status outcome disk s faults =
+    EndsWith (WritesText (without_value outcome) (string_bytes text) s.output × IfOk outcome (λ summary. summary ≡ None)
+    × s.InputUnread × (disk.after ≡ disk.before)) status outcome faults
+ProgramEnds (Err stop.Memory) status outcome disk s faults = EndsWith ((outcome ≡ Err Memory) × NoInputNoOutput disk s) status outcome faults
 ProgramEnds (Err (stop.Usage text)) status outcome disk s faults =
-    (status ≡ usage_status) × (outcome ≡ Ok None) × WrittenSoFar (string_bytes text) faults × Untouched disk s
-ProgramEnds line status outcome disk s faults = CommandEnds line outcome disk s × (status ≡ status_of outcome) × Tells outcome faults
+    (status ≡ usage_status) × (outcome ≡ Ok None) × WrittenSoFar (string_bytes text) faults × NoInputNoOutput disk s
 
 -- ---- calls of the disk
 

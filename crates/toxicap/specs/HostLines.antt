@@ -1,6 +1,6 @@
 -- The lines of a text that lists hosts.
 use Rattle.std.specs.Prelude.{ℕ, ◌-◌, ◌==◌, Bool, List, [], length, slice_index, take, if◌then◌else◌}
-use Rattle.std.specs.List.{slice_split}
+use Rattle.toxicap.specs.Words.{slice_split}
 
 abbrev pub is_line_feed : ℕ → Bool
 is_line_feed byte = byte == 10

@@ -1,19 +1,8 @@
 -- What a command line names: hosts, scenario files, and a capture.
-use Rattle.std.specs.Prelude.{◌≡◌, ℕ, ◌+◌, ◌<◌, ◌≤◌, ◌==◌, List, [], ◌∷◌, ◌++◌, length, map, take, drop, position, codes, Option, Some, None, option_map, option_and_then, IfErr, IfNone, IfOk, IfSome, Result, Ok, Err}
-use Rattle.std.specs.Borrow.{Bor}
-use Rattle.std.specs.Io.KnownBytes.{Consumes, IsAtEnd}
-use Rattle.pcap_records.specs.Reading.{capture_limit}
-use Rattle.scenarios.specs.Hosts.{host_for}
-use Rattle.scenarios.specs.Refusals.{and_then, with}
-use Rattle.scenarios.specs.declared.hosts.KnownHost.{KnownHost}
-use Rattle.command_line.specs.declared.asked.Asked.{Asked}
-use Rattle.disks.specs.FileContents.{Held}
-use Rattle.disks.specs.Histories.{History, held_now}
-use Rattle.run_files.specs.declared.error.RunFault.{RunFault}
-use Rattle.run_files.specs.declared.error.RunFault.TheVariants.{BadHost, CaptureTooLong, Memory, ReadFailed}
-use Rattle.run_files.specs.Paths.{IsOfFile, text_at}
-use Rattle.run_files.specs.SeenTexts.{LoadsInput}
-use Rattle.run_files.specs.Streams.{CountedView}
+use Rattle.std.specs.Prelude.{◌≡◌, ℕ, ◌+◌, ◌<◌, ◌≤◌, ◌==◌, List, [], ◌∷◌, ◌++◌, length, map, take, drop, position, codes, Option, Some, None, option_map}
+use Rattle.std.specs.Prelude.{option_and_then, IfErr, IfNone, IfOk, IfSome, Result, Ok, Err}
+use Rattle.toxicap.specs.Words.{Bor, Consumes, IsAtEnd, capture_limit, host_for, and_then, with, KnownHost, Asked, Held, History, held_now, RunFault, BadHost}
+use Rattle.toxicap.specs.Words.{CaptureTooLong, Memory, ReadFailed, IsOfFile, text_at, LoadsInput, CountedView}
 use Rattle.toxicap.specs.RunEnds.{UnlessMemory}
 
 -- ---- hosts
@@ -93,10 +82,10 @@ LoadedBy remaining r s given =
     × LoadsInput (λ text. text) given (Consumes (remaining r.inner) (remaining s.inner)) (IsAtEnd (remaining s.inner)) r.failed s.failed
 
 -- How the capture is loaded. If no path is named, it comes from the reader that the call has for standard input (`Loaded`). Else it comes from the
--- file at the path, within the limit, and that reader is as it was (`Unread`). The path may lead to standard input too, as `/dev/stdin` does: what is
+-- file at the path, within the limit, and that reader is as it was (`InputUnread`). The path may lead to standard input too, as `/dev/stdin` does: what is
 -- read there is a file of the disk.
 abbrev pub LoadsCapture : Option History → Option (Bor (List ℕ)) → Type 0 → (Result (List ℕ) RunFault → Type 0) → Result (List ℕ) RunFault → Type 0
-LoadsCapture history path Unread Loaded given =
+LoadsCapture history path InputUnread Loaded given =
     IfNone path (Loaded given)
-    × IfSome path (λ p. Unread × IfOk given (λ text. length text ≤ capture_limit) × IfErr given IsOfFile
+    × IfSome path (λ p. InputUnread × IfOk given (λ text. length text ≤ capture_limit) × IfErr given IsOfFile
     × IfSome history (λ h. UnlessMemory (text_at (held_now h) p.now) given))

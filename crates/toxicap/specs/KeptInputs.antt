@@ -1,14 +1,6 @@
 -- Files that a run reads: they stand as they did when it ends.
 use Rattle.std.specs.Prelude.{◌≡◌, ◌⊎◌, ⊤, ℕ, List, [], ◌∷◌, Contains, map, Option, Some, None, IfSome, IsSome, Result, Ok, Err}
-use Rattle.std.specs.Borrow.{Bor}
-use Rattle.command_line.specs.declared.asked.Asked.{Asked}
-use Rattle.command_line.specs.declared.error.Stop.{Stop}
-use Rattle.disks.specs.declared.disk.DiskFault.{DiskFault}
-use Rattle.disks.specs.declared.disk.FileId.{FileId}
-use Rattle.disks.specs.ReadFiles.{ReadFilesView, with_file}
-use Rattle.disks.specs.Standing.{Standing, id_of}
-use Rattle.run_files.specs.declared.error.RunFault.{RunFault}
-use Rattle.run_files.specs.Folders.{IsOutside}
+use Rattle.toxicap.specs.Words.{Bor, Asked, Stop, DiskFault, FileId, ReadFilesView, with_file, Standing, id_of, RunFault, IsOutside}
 
 -- the files at some paths were read too
 abbrev pub with_files : Standing → ReadFilesView → List (List ℕ) → ReadFilesView

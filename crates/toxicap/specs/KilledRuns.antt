@@ -1,29 +1,21 @@
 -- Runs of the program that are cut off at any moment, and then begun anew.
 use Rattle.std.specs.Prelude.{◌≡◌, ◌≤◌, ℕ, List, [], length, map, Option, Some, Result, Ok}
-use Rattle.scenarios.specs.Refusals.{and_then}
-use Rattle.disks.specs.FileContents.{Held}
-use Rattle.disks.specs.Histories.{History, held_at, held_now}
-use Rattle.command_line.specs.Asking.{ReadsAs}
-use Rattle.command_line.specs.declared.asked.Asked.{Asked}
-use Rattle.conn_workers.specs.declared.summaries.RunSummary.{RunSummary}
-use Rattle.run_files.specs.declared.error.RunFault.{RunFault}
-use Rattle.run_files.specs.declared.outputs.Output.{Output}
-use Rattle.run_files.specs.Streams.{CountedView}
-use Rattle.toxicap.specs.Answering.{called_for}
+use Rattle.toxicap.specs.Words.{and_then, Held, History, held_at, held_now, ReadsAs, Asked, RunSummary, RunFault, Output, CountedView}
+use Rattle.toxicap.specs.Answering.{answer_of_texts}
 use Rattle.toxicap.specs.Commands.{RunsBy, Streams, streams}
 use Rattle.toxicap.specs.Inputs.{LoadsCapture, hosts_asked, texts_from, texts_or_no_proxies}
-use Rattle.toxicap.specs.StoredOutputs.{disk_histories}
+use Rattle.toxicap.specs.RunEnds.{disk_histories}
 
 -- what a command line calls for, by what paths hold, and with the text of its capture
-abbrev pub outputs_asked : Held → Asked → List ℕ → Result (List Output) RunFault
-outputs_asked held asked text = and_then (hosts_asked asked) (λ hosts.
-    and_then (texts_from held [] (map (λ path. path.now) asked.scenarios.items)) (λ files. called_for hosts (texts_or_no_proxies files) asked.seed text))
+abbrev pub answer_of_asked : Held → Asked → List ℕ → Result (List Output) RunFault
+answer_of_asked held asked text = and_then (hosts_asked asked) (λ hosts.
+    and_then (texts_from held [] (map (λ path. path.now) asked.scenarios.items)) (λ files. answer_of_texts hosts (texts_or_no_proxies files) asked.seed text))
 
 -- two runs call for the same outputs, whatever text each may have loaded as its capture
 abbrev pub CallForTheSame : History → Asked → Streams → History → Asked → Streams → Type 0
 CallForTheSame old asked s cut again t =
-    (one two : List ℕ) → LoadsCapture (Some old) asked.capture s.Unread s.Loaded (Ok one) → LoadsCapture (Some cut) again.capture t.Unread t.Loaded (Ok two)
-    → outputs_asked (held_now cut) again two ≡ outputs_asked (held_now old) asked one
+    (one two : List ℕ) → LoadsCapture (Some old) asked.capture s.InputUnread s.Loaded (Ok one) → LoadsCapture (Some cut) again.capture t.InputUnread t.Loaded (Ok two)
+    → answer_of_asked (held_now cut) again two ≡ answer_of_asked (held_now old) asked one
 
 -- A run ends well over a disk with the history `old`, and leaves `new`. At a moment of that run n files had been published; the same words are run
 -- over a disk whose paths hold what they held then. If this run calls for the same outputs and ends well, each path holds what it holds after

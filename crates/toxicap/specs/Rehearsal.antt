@@ -1,21 +1,10 @@
 -- The answer to a rehearsal: for each scenario a capture and a report. `connections` filters the whole list of segments for one connection after
 -- another.
 use Rattle.std.specs.Prelude.{◌≡◌, ℕ, List, length, map, nat_lt, if◌then◌else◌, Result, Ok, Err}
-use Rattle.std.specs.List.{enumerate_from, flat_map}
-use Rattle.pcap_records.specs.declared.fault.CaptureFault.{CaptureFault}
-use Rattle.pcap_records.specs.Reading.{Reading, reading}
-use Rattle.run_files.specs.declared.error.RunFault.{RunFault}
-use Rattle.run_files.specs.declared.error.RunFault.TheVariants.{TooManyScenarios}
-use Rattle.run_files.specs.declared.outputs.Output.{Output}
-use Rattle.run_files.specs.RunFault.{run_fault}
-use Rattle.conn_table.specs.SeenCapture.{SeenCapture, seen_capture}
-use Rattle.conn_table.specs.IndexedSegments.{indexed_segments}
-use Rattle.conn_table.specs.Connections.{connections, unopened_count}
-use Rattle.scenarios.specs.declared.proxies.Proxy.{Proxy}
-use Rattle.conn_workers.specs.Contributions.{Contribution, contribution_of}
-pub use Rattle.conn_workers.specs.DeliveryRows.{scenario_limit}
-use Rattle.time_merge.specs.MergedCapture.{capture_of}
-use Rattle.report.specs.ReportText.{report_text}
+use Rattle.toxicap.specs.Words.{enumerate_from, flat_map, CaptureFault, Reading, reading, RunFault, TooManyScenarios, Output, run_fault, SeenCapture}
+use Rattle.toxicap.specs.Words.{seen_capture, indexed_segments, connections, unopened_count, Proxy, Contribution, contribution_of}
+pub use Rattle.conn_workers.specs.Recordings.{scenario_limit}
+use Rattle.toxicap.specs.Words.{capture_of, report_text}
 
 -- what each connection contributes under a scenario, in order of their numbers; a scenario is its own number and its proxies in order
 abbrev pub contributions : SeenCapture → ℕ → ℕ × List Proxy → List Contribution

@@ -1,15 +1,8 @@
 //! The program: from the words of its command line to an exit status.
 ghost use Rattle.std.specs.Prelude.{◌≡◌, ◌≢◌, ◌+◌, ◌-◌, ◌^◌, ◌<◌, ◌≤◌, map, IfOk, None, Option, Result};
-ghost use Rattle.std.specs.IoError.{error_kind};
-ghost use Rattle.command_line.specs.Asking.{ReadsAs};
-ghost use Rattle.command_line.specs.declared.asked.Asked.{Asked};
-ghost use Rattle.command_line.specs.declared.error.Stop.{Stop};
-ghost use Rattle.conn_workers.specs.declared.summaries.RunSummary.{RunSummary};
-ghost use Rattle.run_files.specs.RunFault.{fault_text};
-ghost use Rattle.toxicap.specs.Commands.{ProgramEnds, failed_calls, folder_of, of_run, streams};
-ghost use Rattle.toxicap.specs.KeptInputs.{StandAfter, SweptAfter};
-ghost use Rattle.toxicap.specs.RunEnds.{Tells, WritesText, WrittenSoFar, no_text, status_of, text_with_line_feed, usage_status, without_value, written};
-ghost use Rattle.toxicap.specs.StoredOutputs.{disk_histories};
+ghost use Rattle.toxicap.specs.{error_kind, ReadsAs, Asked, Stop, RunSummary, fault_text, ProgramEnds, failed_calls, folder_of, of_run, streams, StandAfter};
+ghost use Rattle.toxicap.specs.{SweptAfter, Tells, WritesText, WrittenSoFar, no_text, status_of, text_with_line_feed, usage_status, without_value, written};
+ghost use Rattle.toxicap.specs.{disk_histories};
 
 mod runs;
 

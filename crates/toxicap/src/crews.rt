@@ -16,10 +16,7 @@ use std::thread::Threads;
 /// who it is.
 pub(crate) trait Crew {
     ghost use Rattle.std.specs.Prelude.{◌≡◌, ◌≤◌, IfOk, length};
-    ghost use Rattle.conn_workers.specs.CaptureTables.{whole_table};
-    ghost use Rattle.conn_workers.specs.Recordings.{recordings_of};
-    ghost use Rattle.conn_workers.specs.ReportTexts.{HoldLines};
-    ghost use Rattle.conn_workers.specs.RowShares.{HoldRow};
+    ghost use Rattle.toxicap.specs.Words.{whole_table, recordings_of, HoldLines, HoldRow};
     ghost use Rattle.toxicap.specs.Rehearsal.{scenario_limit};
 
     // What starts its threads may be shared among them.
@@ -110,7 +107,7 @@ impl Crew for Alone {
 }
 
 impl<'r, R: Threads + Sync> Crew for Workers<'r, R> {
-    ghost use Rattle.std.specs.Thread.{IsSync};
+    ghost use Rattle.toxicap.specs.Words.{IsSync};
 
     ghost shares = { λ crew. IsSync R.row };
 

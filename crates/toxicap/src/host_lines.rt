@@ -1,9 +1,7 @@
 //! Hosts as they are written, each `NAME=ADDR`: words of a command line, or the lines of a text.
 ghost use Rattle.std.specs.Prelude.{◌≡◌, ◌<◌, [], length, map, option_map, IfErr, IfOk};
-ghost use Rattle.std.specs.List.{slice_split};
-ghost use Rattle.toxicap.specs.HostLines.{host_lines, is_line_feed, without_last_feed};
-ghost use Rattle.toxicap.specs.Inputs.{AddsHost, IsOfHost, cut_at_first, equals_sign, host_written, hosts_from};
-ghost use Rattle.toxicap.specs.RunEnds.{UnlessMemory};
+ghost use Rattle.toxicap.specs.{slice_split, host_lines, is_line_feed, without_last_feed, AddsHost, IsOfHost, cut_at_first, equals_sign, host_written};
+ghost use Rattle.toxicap.specs.{hosts_from, UnlessMemory};
 
 use run_files::RunFault;
 use scenarios::laws::addresses_are_dotted;

@@ -1,11 +1,6 @@
 //! Theorems about the definitions of this crate: the contracts of functions that do nothing, or name the theorems that they stand on.
-ghost use Rattle.toxicap.specs.Answering.{RefusedByTexts};
-ghost use Rattle.toxicap.specs.SoundOutputs.{OutputsAreRead};
-ghost use Rattle.toxicap.specs.IsolatedOutputs.{OutputsAreIsolated};
-ghost use Rattle.toxicap.specs.KilledRuns.{KilledRunsAreMended};
-ghost use Rattle.toxicap.specs.Inputs.{FilesAreLoadedInOrder};
-ghost use Rattle.toxicap.specs.Rehearsal.{ByteOrderDoesNotMatter};
-ghost use Rattle.toxicap.specs.SeenLengths.{ReportsSeeLengths};
+ghost use Rattle.toxicap.specs.{RefusedByTexts, OutputsAreRead, OutputsAreIsolated, KilledRunsAreMended, FilesAreLoadedInOrder, ByteOrderDoesNotMatter};
+ghost use Rattle.toxicap.specs.{ReportsSeeLengths};
 
 use disks::laws::published_again;
 use frame_headers::laws::{headers_are_sound, segments_fit};
@@ -35,6 +30,7 @@ pub fn outputs_are_read()
 
 /// What a text calls for is refused only by a fault of the texts. No host is refused then, and no call of a reader, a writer or a shelf has
 /// failed.
+#[tactic(auto, using(crate::proofs::TextsTaken::of_called))]
 pub fn refused_by_texts()
     ensures { RefusedByTexts }
 {}

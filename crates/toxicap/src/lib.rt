@@ -5,12 +5,10 @@
 //! one thread and take no runtime.
 #![tactic(auto)]
 
-mod answering;
 mod commands;
 mod crews;
 mod host_lines;
 pub mod laws;
-mod one_thread;
 mod reading;
 mod rehearsal;
 mod reports;
@@ -18,14 +16,14 @@ mod rows;
 mod sources;
 mod storing;
 
-pub use answering::{Options, answers};
 pub use commands::{command, command_over, refuse_words};
 pub use conn_workers::RunSummary;
 pub use host_lines::read_host_lines;
 pub use job_matrix::{Plan, Through};
-pub use one_thread::{effects_alone, lines_alone, rehearse_alone, reports_alone};
 pub use reading::{Inputs, read_inputs};
-pub use rehearsal::rehearse;
+pub use rehearsal::{
+    Options, answers, effects_alone, lines_alone, rehearse, rehearse_alone, reports_alone,
+};
 pub use run_files::{
     Counted, MemoryFile, MemoryShelf, Output, Outputs, RunFault, Shelf, ShelfError, StoreFault,
     fault_line, load, memory_line, print_reports, store_all, undump,

@@ -1,15 +1,7 @@
 //! What a rehearsal takes, read of texts.
 ghost use Rattle.std.specs.Prelude.{◌≡◌, ℕ, ◌≤◌, [], IfErr, IfOk, Ok, length, map};
-ghost use Rattle.lists.specs.Agreement.{AgreesUnlessMemory, Refuses};
-ghost use Rattle.conn_table.specs.SeenCapture.{seen_capture};
-ghost use Rattle.pcap_records.specs.CaptureView.{bytes_of, contents_of};
-ghost use Rattle.pcap_records.specs.Reading.{reading};
-ghost use Rattle.run_files.specs.RunFault.{run_refusal};
-ghost use Rattle.scenarios.specs.Populate.{scenario};
-ghost use Rattle.toxicap.specs.Answering.{inputs_from, numbered, scenarios_from};
-ghost use Rattle.toxicap.specs.CaptureOutputs.{outputs_for};
-ghost use Rattle.toxicap.specs.Rehearsal.{answer, scenario_limit, seen_file};
-ghost use Rattle.toxicap.specs.RunEnds.{UnlessMemory};
+ghost use Rattle.toxicap.specs.{AgreesUnlessMemory, Refuses, seen_capture, bytes_of, contents_of, reading, run_refusal, scenario, inputs_from, numbered};
+ghost use Rattle.toxicap.specs.{scenarios_from, outputs_of_capture, answer, scenario_limit, seen_file, UnlessMemory};
 
 use pcap_records::{CAPTURE_LIMIT, Capture, FileBytes, Values, read_file};
 use run_files::{RunFault, Text};
@@ -97,7 +89,7 @@ pub(crate) fn read_rehearsed<'a>(
 ) -> Result<Capture<'a>, RunFault>
     ensures few { IfOk result (λ c. length scenarios.now ≤ scenario_limit) }
     ensures seen { IfOk result (λ c. seen_file (reading (bytes_of capture.entry)) ≡ Ok (seen_capture (contents_of c))) }
-    ensures answered { IfOk result (λ c. (seed : ℕ) → answer (bytes_of capture.entry) scenarios.now seed ≡ Ok (outputs_for c scenarios.now seed)) }
+    ensures answered { IfOk result (λ c. (seed : ℕ) → answer (bytes_of capture.entry) scenarios.now seed ≡ Ok (outputs_of_capture c scenarios.now seed)) }
     ensures refused { IfErr result (λ fault. (seed : ℕ) → Refuses (run_refusal fault) (answer (bytes_of capture.entry) scenarios.now seed)) }
 {
     if scenarios.len() > SCENARIO_LIMIT {

@@ -1,6 +1,6 @@
 //! Worked rows of the definitions: each function does nothing, and its contract is evaluated.
-ghost use Rattle.toxicap.specs.WrittenRows.{SessionWritten, RefusedWritten, RefusedPart};
-ghost use Rattle.toxicap.specs.GroupingRows.{RepeatedGrouped, InTurnGrouped, UnopenedFirstGrouped, BothSidesGrouped, LateAnswersGrouped};
+ghost use Rattle.toxicap.specs.{SessionWritten, RefusedWritten, RefusedPart, RepeatedGrouped, InTurnGrouped, UnopenedFirstGrouped, BothSidesGrouped};
+ghost use Rattle.toxicap.specs.{LateAnswersGrouped};
 
 fn written_rows()
     ensures session_written { SessionWritten }

@@ -1,10 +1,9 @@
 //! What the outputs of all scenarios are made of, and what is made of it by any crew: an output in memory or as drafts.
 ghost use Rattle.std.specs.Prelude.{◌≡◌, ◌≤◌, length};
-ghost use Rattle.toxicap.specs.HeadsAndRows.{RowsHaveNoKeyTwice};
+ghost use Rattle.toxicap.specs.OutputParts.{RowsHaveNoKeyTwice};
 ghost use Rattle.toxicap.specs.Rehearsal.{scenario_limit};
 
-mod row_captures;
-mod row_reports;
+mod row_files;
 
 use crate::crews::Crew;
 use conn_workers::laws::{lines_are_contributed, rows_are_contributed};
@@ -12,8 +11,7 @@ use conn_workers::{Recordings, RowShares};
 use disks::Disk;
 use pcap_records::{Capture, Unit, Values};
 use report::ReportText;
-use row_captures::{segment_rows, written_draft};
-use row_reports::{reported_draft, whole_report};
+use row_files::{reported_draft, segment_rows, whole_report, written_draft};
 use run_files::{DraftedOutput, Folder, Output, Outputs};
 use scenarios::Scenario;
 use segment_writer::laws::{keys_stand_once, once_in_any_order, one_order};
@@ -37,10 +35,7 @@ pub(crate) struct Sources<'w, 'v, 'a> {
 
 impl<'w, 'v, 'a> Sources<'w, 'v, 'a> {
     ghost use Rattle.std.specs.Prelude.{◌≡◌, ◌≤◌, length};
-    ghost use Rattle.conn_workers.specs.Recordings.{recordings_of};
-    ghost use Rattle.toxicap.specs.CaptureOutputs.{outputs_for, outputs_from};
-    ghost use Rattle.toxicap.specs.HeadsAndRows.{heads_of};
-    ghost use Rattle.toxicap.specs.Rehearsal.{scenario_limit};
+    ghost use Rattle.toxicap.specs.{recordings_of, outputs_of_capture, outputs_of_sources, heads_of, scenario_limit};
 
     pub(crate) fn of(
         alloc: Global,
@@ -53,7 +48,7 @@ impl<'w, 'v, 'a> Sources<'w, 'v, 'a> {
         requires heads { heads.now ≡ heads_of capture (length scenarios.now) }
         requires recordings { recordings.now ≡ recordings_of capture }
         requires few { length scenarios.now ≤ scenario_limit }
-        ensures { outputs_from result ≡ outputs_for capture.entry scenarios.now seed }
+        ensures { outputs_of_sources result ≡ outputs_of_capture capture.entry scenarios.now seed }
     {
         rows_are_contributed();
         lines_are_contributed();
@@ -70,19 +65,12 @@ impl<'w, 'v, 'a> Sources<'w, 'v, 'a> {
 }
 
 impl<'w, 'v, 'a> Sources<'w, 'v, 'a> {
-    ghost use Rattle.run_files.specs.DraftedOutputs.{IsDraftOf};
-    ghost use Rattle.toxicap.specs.CaptureOutputs.{no_output, outputs_from};
     ghost use Rattle.std.specs.Prelude.{◌≡◌, ◌^◌, ◌<◌, ◌≤◌, ◌++◌, [], All, IfOk, get_or, length};
-    ghost use Rattle.pcap_records.specs.Instants.{ticks_of};
-    ghost use Rattle.toxicap.specs.DraftPlaces.{AreAtPlace};
-    ghost use Rattle.segment_writer.specs.KeyLaws.{HasNoKeyTwice};
-    ghost use Rattle.segment_writer.specs.WrittenSegments.{sorted_by_key};
-    ghost use Rattle.time_merge.specs.MergedCapture.{capture_of};
-    ghost use Rattle.std.specs.List.{flat_map};
+    ghost use Rattle.toxicap.specs.{IsDraftOf, ticks_of, HasNoKeyTwice, sorted_by_key, capture_of, flat_map, no_output, outputs_of_sources, AreAtPlace};
 
     pub(crate) fn outputs<C: Crew>(&self, crew: &C) -> Result<Outputs, AllocError>
         requires { C.shares crew.now }
-        ensures { IfOk result (λ outputs. outputs ≡ outputs_from self.now) }
+        ensures { IfOk result (λ outputs. outputs ≡ outputs_of_sources self.now) }
     {
         let mut outputs = Vec::with_capacity(self.alloc, self.scenarios.len())?;
         for number in 0..self.scenarios.len() {
@@ -95,7 +83,7 @@ impl<'w, 'v, 'a> Sources<'w, 'v, 'a> {
     fn output<C: Crew>(&self, crew: &C, number: usize) -> Result<Output, AllocError>
         requires crew { C.shares crew.now }
         requires within { number < length self.now.scenarios.now }
-        ensures { IfOk result (λ o. o ≡ get_or (outputs_from self.now) number no_output) }
+        ensures { IfOk result (λ o. o ≡ get_or (outputs_of_sources self.now) number no_output) }
     {
         let row = self.row(crew, number)?;
         let report = whole_report(self.alloc, &self.heads[number], row.as_slice())?;
@@ -120,7 +108,7 @@ impl<'w, 'v, 'a> Sources<'w, 'v, 'a> {
         requires crew { C.shares crew.now }
         requires within { number < length self.now.scenarios.now }
         requires place { place ≤ 2 ^ 32 }
-        ensures drafts { IfOk result (IsDraftOf D.holds (get_or (outputs_from self.now) number no_output)) }
+        ensures drafts { IfOk result (IsDraftOf D.holds (get_or (outputs_of_sources self.now) number no_output)) }
         ensures places { IfOk result (AreAtPlace D.path_of folder.now.path place) }
     {
         let row = self.row(crew, number)?;
@@ -138,9 +126,9 @@ impl<'w, 'v, 'a> Sources<'w, 'v, 'a> {
         ensures sorted { IfOk result (λ row. All (λ s. sorted_by_key s.segments ≡ s.segments) row) }
         ensures once { IfOk result (λ row. HasNoKeyTwice (flat_map (λ s. s.segments) row)) }
         ensures capture { IfOk result (λ row. capture_of (ticks_of self.now.unit) (flat_map (λ s. s.segments) row)
-            ≡ (get_or (outputs_from self.now) number no_output).capture) }
+            ≡ (get_or (outputs_of_sources self.now) number no_output).capture) }
         ensures report { IfOk result (λ row. get_or self.now.heads.now number [] ++ flat_map (λ s. s.lines) row
-            ≡ (get_or (outputs_from self.now) number no_output).report) }
+            ≡ (get_or (outputs_of_sources self.now) number no_output).report) }
     {
         one_order();
         once_in_any_order();

@@ -1,20 +1,8 @@
 //! Outputs that are stored as they are made, a few scenarios after another.
 ghost use Rattle.std.specs.Prelude.{◌≡◌, ◌+◌, ◌-◌, ◌^◌, ◌<◌, ◌≤◌, IfErr, IfOk, List, Ok, OnOk, Result, length};
-ghost use Rattle.lists.specs.Agreement.{Agrees};
-ghost use Rattle.conn_table.specs.SeenCapture.{seen_capture};
-ghost use Rattle.conn_workers.specs.RunSummaries.{run_summary};
-ghost use Rattle.pcap_records.specs.CaptureView.{contents_of};
-ghost use Rattle.run_files.specs.declared.error.RunFault.{RunFault};
-ghost use Rattle.run_files.specs.declared.outputs.Output.{Output};
-ghost use Rattle.run_files.specs.Folders.{CommitsIn, failed_stores, Leaves};
-ghost use Rattle.run_files.specs.RunFault.{outcome_of_storing, run_refusal};
-ghost use Rattle.run_files.specs.WrittenOutputs.{files_from, stored_before};
-ghost use Rattle.toxicap.specs.Answering.{answer_of};
-ghost use Rattle.toxicap.specs.CaptureOutputs.{outputs_for, outputs_from};
-ghost use Rattle.toxicap.specs.Rehearsal.{scenario_limit};
-ghost use Rattle.toxicap.specs.RunEnds.{Step, without_value};
-ghost use Rattle.toxicap.specs.RunSummaries.{summary_of_bytes};
-ghost use Rattle.toxicap.specs.StoredOutputs.{StoresFiles};
+ghost use Rattle.toxicap.specs.{Agrees, seen_capture, run_summary, contents_of, RunFault, Output, CommitsIn, failed_stores, Leaves, outcome_of_storing};
+ghost use Rattle.toxicap.specs.{run_refusal, files_from, stored_before, answer_of, outputs_of_capture, outputs_of_sources, scenario_limit, Step, without_value};
+ghost use Rattle.toxicap.specs.{summary_of_bytes, StoresFiles};
 
 mod drafting;
 
@@ -99,7 +87,7 @@ where
     requires faults { D.faults disk.old < 2 ^ 64 - 1 }
     ensures leaves { Leaves folder.now (D.standing disk.old) (D.standing disk.new) }
     ensures swept { D.is_swept disk.old folder.now.path folder.now.read → OnOk result (D.is_swept disk.new folder.now.path folder.now.read) }
-    ensures stored { StoresFiles (without_value result) (files_from 0 (outputs_for capture.entry scenarios.now seed))
+    ensures stored { StoresFiles (without_value result) (files_from 0 (outputs_of_capture capture.entry scenarios.now seed))
         (CommitsIn folder.now.path (D.history disk.old) (D.history disk.new)) }
     ensures faults { D.faults disk.new ≡ D.faults disk.old + failed_stores folder.now.path (without_value result) }
     ensures summary { IfOk result (λ summary. summary ≡ run_summary (seen_capture (contents_of capture.entry)) scenarios.now) }
@@ -125,7 +113,7 @@ where
     requires { D.faults disk.old < 2 ^ 64 - 1 }
     ensures leaves { Leaves folder.now (D.standing disk.old) (D.standing disk.new) }
     ensures swept { D.is_swept disk.old folder.now.path folder.now.read → OnOk result (D.is_swept disk.new folder.now.path folder.now.read) }
-    ensures stored { StoresFiles result (files_from 0 (outputs_from sources.now))
+    ensures stored { StoresFiles result (files_from 0 (outputs_of_sources sources.now))
         (CommitsIn folder.now.path (D.history disk.old) (D.history disk.new)) }
     ensures faults { D.faults disk.new ≡ D.faults disk.old + failed_stores folder.now.path result }
 {

@@ -1,26 +1,13 @@
 //! A run that a command line asks for.
-ghost use Rattle.toxicap.specs.Inputs.{IsOfFiles, LoadedBy, LoadsCapture, texts_from, texts_or_no_proxies};
-ghost use Rattle.disks.specs.Histories.{held_now};
-ghost use Rattle.toxicap.specs.KeptInputs.{InputsStand, ReadsCapture, SweptFor, with_files};
 ghost use Rattle.std.specs.Prelude.{◌≡◌, ◌+◌, ◌-◌, ◌^◌, ◌<◌, ◌≤◌, ℕ, List, Result, map, IfErr, [], length, IfOk, IfSome, OnOk, Ok};
-ghost use Rattle.lists.specs.Agreement.{AgreesUnlessMemory};
-ghost use Rattle.toxicap.specs.PrintedReports.{PrintsOf};
-ghost use Rattle.command_line.specs.Asking.{IsPlanInRange};
-ghost use Rattle.run_files.specs.declared.error.RunFault.{RunFault};
-ghost use Rattle.toxicap.specs.RunEnds.{without_value, written};
-ghost use Rattle.toxicap.specs.RunSummaries.{summary_of_texts};
-ghost use Rattle.toxicap.specs.Answering.{called_for};
-ghost use Rattle.toxicap.specs.StoredOutputs.{StoresIn, disk_histories};
-ghost use Rattle.pcap_records.specs.Reading.{capture_limit};
-ghost use Rattle.run_files.specs.Folders.{failed_stores, Leaves};
-ghost use Rattle.run_files.specs.SeenTexts.{IsSeenOf, SeesAs};
-ghost use Rattle.toxicap.specs.Commands.{RunsBy, failed_calls, streams};
-ghost use Rattle.run_files.specs.RunFault.{run_refusal};
+ghost use Rattle.toxicap.specs.{IsOfFiles, LoadedBy, LoadsCapture, texts_from, texts_or_no_proxies, held_now, InputsStand, ReadsCapture, SweptFor, with_files};
+ghost use Rattle.toxicap.specs.{AgreesUnlessMemory, PrintsOf, IsPlanInRange, RunFault, without_value, written, summary_of_texts, answer_of_texts, StoresIn};
+ghost use Rattle.toxicap.specs.{disk_histories, capture_limit, failed_stores, Leaves, IsSeenOf, SeesAs, RunsBy, failed_calls, streams, run_refusal};
 
-use crate::answering::Options;
 use crate::crews::Workers;
 use crate::host_lines::read_hosts;
 use crate::reading::read_inputs;
+use crate::rehearsal::Options;
 use crate::reports::seen_reports;
 use crate::storing::store_rehearsal;
 use command_line::Asked;
@@ -88,7 +75,7 @@ fn print_answers<H: Threads + Sync, W: Write>(
 ) -> Result<RunSummary, RunFault>
     requires { writer.old.failed < 2 ^ 64 - 1 }
     ensures prints { (text : List ℕ) → length text ≤ capture_limit → IsSeenOf seen text
-        → PrintsOf (without_value result) (called_for options.now.hosts (map (λ t. t.now) texts.now) options.now.seed text) (written W.contents writer.old writer.new) }
+        → PrintsOf (without_value result) (answer_of_texts options.now.hosts (map (λ t. t.now) texts.now) options.now.seed text) (written W.contents writer.old writer.new) }
     ensures summary { (text : List ℕ) → length text ≤ capture_limit → IsSeenOf seen text
         → IfOk result (λ summary. summary_of_texts options.now.hosts (map (λ t. t.now) texts.now) text ≡ Ok summary) }
 {
@@ -132,7 +119,7 @@ where
     requires { D.faults disk.old < 2 ^ 64 - 1 }
     ensures leaves { Leaves folder.now (D.standing disk.old) (D.standing disk.new) }
     ensures swept { OnOk result (0 < length texts.now → D.is_swept disk.new folder.now.path folder.now.read) }
-    ensures stored { StoresIn folder.now.path (without_value result) (called_for options.now.hosts (map (λ t. t.now) texts.now) options.now.seed text.entry)
+    ensures stored { StoresIn folder.now.path (without_value result) (answer_of_texts options.now.hosts (map (λ t. t.now) texts.now) options.now.seed text.entry)
         (disk_histories (D.history disk.old) (D.history disk.new)) }
     ensures faults { D.faults disk.new ≡ D.faults disk.old + failed_stores folder.now.path (without_value result) }
     ensures summary { IfOk result (λ summary. summary_of_texts options.now.hosts (map (λ t. t.now) texts.now) text.entry ≡ Ok summary) }

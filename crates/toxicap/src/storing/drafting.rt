@@ -1,8 +1,6 @@
 //! Drafts of outputs, made by workers in rounds, each of a few scenarios.
 ghost use Rattle.std.specs.Prelude.{◌≡◌, ◌≢◌, ◌+◌, ◌<◌, ◌≤◌, IfOk, drop, length, take};
-ghost use Rattle.std.specs.List.{AllPairs};
-ghost use Rattle.toxicap.specs.CaptureOutputs.{outputs_from};
-ghost use Rattle.toxicap.specs.DraftPlaces.{paths_in, placed_from};
+ghost use Rattle.toxicap.specs.{AllPairs, outputs_of_sources, paths_in, placed_from};
 
 use crate::crews::{Alone, Workers};
 use crate::sources::Sources;
@@ -27,25 +25,25 @@ pub(crate) struct OutputDraft<'s, 'w, 'v, 'a, D: Disk> {
 
 impl<'s, 'w, 'v, 'a, D: Disk> Model for OutputDraft<'s, 'w, 'v, 'a, D> {
     ghost use Rattle.std.specs.Prelude.{get_or};
-    ghost use Rattle.run_files.specs.DraftedOutputs.{IsDraftOf};
-    ghost use Rattle.toxicap.specs.CaptureOutputs.{no_output, outputs_from};
-    ghost use Rattle.toxicap.specs.DraftPlaces.{PlacedOutput};
+    ghost use Rattle.toxicap.specs.Words.{IsDraftOf};
+    ghost use Rattle.toxicap.specs.CaptureOutputs.{no_output, outputs_of_sources};
+    ghost use Rattle.toxicap.specs.OutputParts.{PlacedOutput};
 
     ghost Value = { PlacedOutput };
 
     ghost view = { λ d. record {
-      output = get_or (outputs_from d.sources.now) d.number no_output;
+      output = get_or (outputs_of_sources d.sources.now) d.number no_output;
       capture_path = D.path_of d.drafted.0;
       report_path = D.path_of d.drafted.1;
     } };
 
     ghost invariant = { λ d. IsDraftOf D.holds
-        (get_or (outputs_from d.sources.now) d.number no_output) d.drafted };
+        (get_or (outputs_of_sources d.sources.now) d.number no_output) d.drafted };
 }
 
 impl<'s, 'w, 'v, 'a, D: Disk> OutputDraft<'s, 'w, 'v, 'a, D> {
     ghost use Rattle.std.specs.Prelude.{◌≡◌};
-    ghost use Rattle.run_files.specs.DraftedOutputs.{IsDraftOf};
+    ghost use Rattle.toxicap.specs.Words.{IsDraftOf};
 
     pub(crate) fn into_drafts(self) -> DraftedOutput<D::Draft>
         ensures drafts { IsDraftOf D.holds self.entry.output result }
@@ -75,11 +73,11 @@ impl<'j, 'f, 's, 'w, 'v, 'a, D: Disk + Sync> Work for DraftJobs<'j, 'f, 's, 'w, 
     type Out = OutputDraft<'s, 'w, 'v, 'a, D>;
 
     ghost use Rattle.std.specs.Prelude.{◌≡◌, ◌<◌, IfOk, drop, get_or, length, take};
-    ghost use Rattle.toxicap.specs.CaptureOutputs.{outputs_from};
-    ghost use Rattle.toxicap.specs.DraftPlaces.{placed_from};
+    ghost use Rattle.toxicap.specs.CaptureOutputs.{outputs_of_sources};
+    ghost use Rattle.toxicap.specs.OutputParts.{placed_from};
 
     ghost values = { λ w. placed_from w.folder.now.path 0 (take w.count (drop w.first
-        (outputs_from w.sources.now))) };
+        (outputs_of_sources w.sources.now))) };
 
     fn value(&self, job: u64) -> Result<OutputDraft<'s, 'w, 'v, 'a, D>, AllocError> {
         let number = self.first + job as usize;
@@ -110,7 +108,7 @@ where
     requires { number < length sources.now.scenarios.now }
     ensures some { IfOk result (λ v. 0 < length v.items) }
     ensures next { IfOk result (λ v. v.items ≡ placed_from folder.now.path 0 (take (length v.items) (drop number
-        (outputs_from sources.now)))) }
+        (outputs_of_sources sources.now)))) }
     ensures apart { IfOk result (λ v. 0 < length folder.now.path → AllPairs (λ one other. one ≢ other) (paths_in v.items)) }
 {
     draft_paths_differ();
@@ -139,7 +137,7 @@ where
     D::Draft: Send,
     requires { number + count ≤ length sources.now.scenarios.now }
     ensures next { IfOk result (λ v. v.items ≡ placed_from folder.now.path 0 (take (length v.items) (drop number
-        (outputs_from sources.now)))) }
+        (outputs_of_sources sources.now)))) }
 {
     let jobs = DraftJobs {
         sources,
@@ -174,7 +172,7 @@ fn draft_by_workers<'s, 'w, 'v, 'a, R: Threads + Sync, D: Disk>(
     requires { number < length sources.now.scenarios.now }
     ensures some { IfOk result (λ v. 0 < length v.items) }
     ensures next { IfOk result (λ v. v.items ≡ placed_from folder.now.path 0 (take (length v.items) (drop number
-        (outputs_from sources.now)))) }
+        (outputs_of_sources sources.now)))) }
 {
     let drafted = sources.drafted(crew, number, folder, disk, 0)?;
     let mut drafts = Vec::with_capacity(sources.alloc, 1)?;

@@ -1,7 +1,7 @@
 use Rattle.std.proofs.Common.{◌≡◌, ◌<◌, ◌≤◌, ◌+◌, length, ap, take, subst, IfSome, arith, length-append}
 use Rattle.std.proofs.lemmas.List.{length-take-le}
-use Rattle.disks.specs.FileContents.{Gives}
-use Rattle.run_files.proofs.LoadedFiles.{full_part, last_part, part_step}
+use Rattle.run_files.specs.{Gives}
+use Rattle.run_files.proofs.LoadedTexts.{full_part, last_part, part_step}
 use Rattle.run_files.proofs.block_loading.load_part.Goals as goal
 
 pub reads-preserved : goal.reads-preserved

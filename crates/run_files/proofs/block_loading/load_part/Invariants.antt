@@ -1,5 +1,5 @@
 use Rattle.std.proofs.Common.{◌≡◌, ◌≤◌, ◌-◌, length, take, drop, IfSome}
-use Rattle.pcap_records.specs.Blocks.{block_len}
+use Rattle.run_files.specs.{block_len}
 use Rattle.run_files.proofs.block_loading.load_part.Given as goal
 
 -- what came until now are the file's bytes from the start on, no more than a block has of its own

@@ -1,12 +1,9 @@
 use Rattle.std.proofs.Common.{◌≡◌, ◌≤◌, length, All, ◌++◌, ◌∷◌, [], map, ap, subst, sym, rules, ◌∙◌, arith}
-use Rattle.std.specs.Vec.Iter.{into_iter_items}
 use Rattle.std.proofs.lemmas.List.{map_push, nil_from_length}
 use Rattle.std.proofs.lemmas.Result.{err_from_is_err_and}
 use Rattle.std.proofs.lemmas.List.Elements.{All-append}
-use Rattle.pcap_records.specs.Blocks.{block_len}
+use Rattle.run_files.specs.{into_iter_items, block_len, run_refusal, blocks_of}
 use Rattle.run_files.proofs.LoadedParts.{Gathers, gathers_none, gathers_one, gathers_no_more, gathers_all}
-use Rattle.run_files.specs.RunFault.{run_refusal}
-use Rattle.run_files.specs.LoadedBlocks.{blocks_of}
 use Rattle.run_files.proofs.block_loading.parts_of.Goals as goal
 
 pub loop-block-init : goal.loop-block-init

@@ -1,6 +1,5 @@
 use Rattle.std.proofs.Common.{◌≤◌, length, map, All}
-use Rattle.std.specs.Vec.Iter.{into_iter_items}
-use Rattle.pcap_records.specs.Blocks.{block_len}
+use Rattle.run_files.specs.{into_iter_items, block_len}
 use Rattle.run_files.proofs.LoadedParts.{Gathers}
 use Rattle.run_files.proofs.block_loading.parts_of.Given as goal
 

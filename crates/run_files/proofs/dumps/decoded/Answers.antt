@@ -1,6 +1,6 @@
 use Rattle.std.proofs.Common.{arith}
 use Rattle.std.proofs.lemmas.Grind.{common_steps}
-use Rattle.run_files.specs.Dumps.{without_blanks}
+use Rattle.run_files.specs.{without_blanks}
 use Rattle.run_files.proofs.DumpLemmas.{decoded_none, decoded_more, decoded_all}
 use Rattle.run_files.proofs.dumps.decoded.Goals as goal
 

@@ -1,7 +1,6 @@
 use Rattle.std.proofs.Common.{◌≡◌, ◌*◌, length}
-use Rattle.hex.specs.Hex.{decode_pairs}
 use Rattle.hex.proofs.Pairs.{prepend}
-use Rattle.run_files.specs.Dumps.{without_blanks}
+use Rattle.run_files.specs.{decode_pairs, without_blanks}
 use Rattle.run_files.proofs.dumps.decoded.Given as goal
 
 -- the bytes so far, and those of the digits that are left, are all

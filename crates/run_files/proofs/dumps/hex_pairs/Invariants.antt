@@ -1,4 +1,4 @@
-use Rattle.run_files.specs.Dumps.{HoldsPairs}
+use Rattle.run_files.specs.{HoldsPairs}
 use Rattle.run_files.proofs.dumps.hex_pairs.Given as goal
 
 abbrev pub invariant-highs : goal.invariant-highs

@@ -1,5 +1,5 @@
 use Rattle.std.proofs.Common.{◌≡◌, ◌≤◌, length}
-use Rattle.run_files.specs.Dumps.{without_blanks}
+use Rattle.run_files.specs.{without_blanks}
 use Rattle.run_files.proofs.dumps.next_digit.Given as goal
 
 abbrev pub invariant-blanks : goal.invariant-blanks

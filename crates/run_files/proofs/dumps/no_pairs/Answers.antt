@@ -1,5 +1,5 @@
 use Rattle.std.proofs.Common.{rules, subst, sym}
-use Rattle.run_files.specs.Dumps.{HoldsPairs}
+use Rattle.run_files.specs.{HoldsPairs}
 use Rattle.run_files.proofs.DumpLemmas.{holds-none}
 use Rattle.run_files.proofs.dumps.no_pairs.Goals as goal
 

@@ -1,6 +1,6 @@
 use Rattle.std.proofs.Common.{Err, ap, ◌∙◌}
 use Rattle.std.proofs.lemmas.Result.{err_from_is_err_and}
-use Rattle.hex.specs.Hex.{decode_pairs, pair_value}
+use Rattle.run_files.specs.{decode_pairs, pair_value}
 use Rattle.run_files.proofs.DumpLemmas.{byte_told}
 use Rattle.run_files.proofs.dumps.pair_byte.Goals as goal
 

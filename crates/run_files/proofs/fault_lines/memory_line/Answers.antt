@@ -1,6 +1,5 @@
 use Rattle.std.proofs.Common.{refl}
-use Rattle.std.specs.Fmt.{digits}
-use Rattle.run_files.specs.RunFault.{fault_text}
+use Rattle.run_files.specs.{digits, fault_text}
 use Rattle.run_files.proofs.fault_lines.memory_line.Goals as goal
 
 pub returns : goal.returns

@@ -1,7 +1,6 @@
 use Rattle.std.proofs.Common.{Err, refl}
 use Rattle.std.proofs.lemmas.Result.{err_from_is_err_and}
-use Rattle.run_files.proofs.LoadedFiles.{text_of_path}
-use Rattle.run_files.proofs.LoadedTexts.{file_loaded, none_come}
+use Rattle.run_files.proofs.LoadedTexts.{text_of_path, file_loaded, none_come}
 use Rattle.run_files.proofs.head_loading.see_file.Goals as goal
 
 pub returns-in_err-file : goal.returns-in_err-file

@@ -1,10 +1,7 @@
 use Rattle.std.proofs.Common.{◌-◌, ◌<◌, ◌≤◌, ◌++◌, ◌∙◌, Ok, Err, ap, length, take, refl, subst, arith, append-nil}
 use Rattle.std.proofs.lemmas.Result.{err_from_is_err_and}
 use Rattle.std.proofs.lemmas.Slice.{take-put_mid_below}
-use Rattle.lists.specs.Agreement.{AgreesUnlessMemory}
-use Rattle.pcap_records.specs.Heads.{read_on}
-use Rattle.pcap_records.specs.CaptureView.{capture_refusal}
-use Rattle.pcap_records.specs.Reading.{capture_limit}
+use Rattle.run_files.specs.{AgreesUnlessMemory, read_on, capture_refusal, capture_limit}
 use Rattle.run_files.proofs.SeenParts.{fits_taken, room_left, seen_first, seen_read, seen_taken, seen_whole}
 use Rattle.run_files.proofs.head_loading.see_rest.Goals as goal
 

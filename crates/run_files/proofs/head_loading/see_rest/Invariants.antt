@@ -1,6 +1,5 @@
 use Rattle.std.proofs.Common.{◌+◌, ◌-◌, ◌≤◌, ℕ, List, take}
-use Rattle.pcap_records.specs.Reading.{capture_limit}
-use Rattle.run_files.specs.Loading.{ComesOn}
+use Rattle.run_files.specs.{capture_limit, ComesOn}
 use Rattle.run_files.proofs.SeenParts.{IsSeenSoFar}
 use Rattle.run_files.proofs.head_loading.see_rest.Given as goal
 

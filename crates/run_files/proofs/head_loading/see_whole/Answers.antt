@@ -1,11 +1,8 @@
 use Rattle.std.proofs.Common.{◌≡◌, ◌<◌, ◌≤◌, ◌∙◌, [], Ok, Err, true, length, take, refl, sym, ap, subst, arith}
 use Rattle.std.proofs.lemmas.List.{length-take-le}
 use Rattle.std.proofs.lemmas.Result.{err_from_is_err_and}
-use Rattle.pcap_records.specs.Reading.{capture_limit}
-use Rattle.run_files.specs.declared.seen_parts.SeenText.TheVariants.{Dump}
-use Rattle.run_files.specs.Dumps.{is_dump}
-use Rattle.run_files.specs.Loading.{Loads}
-use Rattle.run_files.specs.SeenTexts.{Sees}
+use Rattle.run_files.specs.{capture_limit, is_dump, Loads, Sees}
+use Rattle.run_files.specs.declared.head_loading.SeenText.TheVariants.{Dump}
 use Rattle.run_files.proofs.SeenParts.{same_first, seen_nothing}
 use Rattle.run_files.proofs.head_loading.see_whole.Goals as goal
 

@@ -1,6 +1,5 @@
 use Rattle.std.proofs.Common.{◌≡◌, ◌-◌, ◌≤◌, ◌++◌, ℕ, List, length}
-use Rattle.pcap_records.specs.Reading.{capture_limit}
-use Rattle.run_files.specs.Loading.{ComesOn}
+use Rattle.run_files.specs.{capture_limit, ComesOn}
 use Rattle.run_files.proofs.inputs.load_rest.Given as goal
 
 -- all that came is within the limit, and begins with what came at first

@@ -1,4 +1,4 @@
-use Rattle.run_files.proofs.DraftNames.{paths_differ}
+use Rattle.run_files.proofs.StoredFiles.{paths_differ}
 use Rattle.run_files.proofs.laws.draft_paths_differ.Goals as goal
 
 pub returns : goal.returns

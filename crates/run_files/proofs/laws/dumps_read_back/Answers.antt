@@ -1,6 +1,6 @@
 use Rattle.std.proofs.Common.{inl, inr, ◌∙◌, ap}
-use Rattle.hex.specs.Hex.{decode_of}
 use Rattle.hex.proofs.HexLemmas.{decode_of-encode_lower, decode_of-encode_upper}
+use Rattle.run_files.specs.{decode_of}
 use Rattle.run_files.proofs.DumpLemmas.{dump_reading-decoded}
 use Rattle.run_files.proofs.laws.dumps_read_back.Goals as goal
 

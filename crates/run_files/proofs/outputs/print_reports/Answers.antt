@@ -2,9 +2,9 @@ use Rattle.std.proofs.Common.{◌+◌, arith, length, take}
 use Rattle.std.proofs.KnownBytes.{Appends-trans}
 use Rattle.std.proofs.lemmas.Grind.{common_steps}
 use Rattle.std.proofs.lemmas.Result.{err_from_is_err_and}
+use Rattle.run_files.specs.{reports_of}
 use Rattle.run_files.specs.declared.outputs.Output.{Output}
-use Rattle.run_files.specs.WrittenOutputs.{reports_of}
-use Rattle.run_files.proofs.PrintedPart.{printed_part}
+use Rattle.run_files.proofs.StoredFiles.{printed_part}
 use Rattle.run_files.proofs.outputs.print_reports.Goals as goal
 
 pub returns-in_err-write_bytes-clause-first_part :

@@ -1,6 +1,5 @@
 use Rattle.std.proofs.Common.{◌≡◌, take}
-use Rattle.std.specs.Io.KnownBytes.{Appends}
-use Rattle.run_files.specs.WrittenOutputs.{reports_of}
+use Rattle.run_files.specs.{Appends, reports_of}
 use Rattle.run_files.proofs.outputs.print_reports.Given as goal
 
 abbrev pub invariant-loop-output : goal.invariant-loop-output

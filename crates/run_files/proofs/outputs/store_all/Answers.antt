@@ -1,8 +1,7 @@
 use Rattle.std.proofs.Common.{◌≡◌, ℕ, ◌+◌, ◌*◌, [], length, drop, Ok, Err, refl, ap, arith}
 use Rattle.std.proofs.lemmas.List.{drop_all}
 use Rattle.std.proofs.lemmas.Result.{err_from_is_err_and}
-use Rattle.run_files.specs.Shelves.{Takes}
-use Rattle.run_files.specs.WrittenOutputs.{capture_file, report_file}
+use Rattle.run_files.specs.{Takes, capture_file, report_file}
 use Rattle.run_files.proofs.StoredFiles.{Takes-append, Takes-none, next_files, not_put, put_first}
 use Rattle.run_files.proofs.outputs.store_all.Goals as goal
 

@@ -1,8 +1,6 @@
 use Rattle.std.proofs.Common.{◌≡◌, ◌*◌, List, drop, Option, Result}
+use Rattle.run_files.specs.{Takes, StoredFile, files_from, Stores}
 use Rattle.run_files.specs.declared.error.StoreFault.{StoreFault}
-use Rattle.run_files.specs.Shelves.{Takes}
-use Rattle.run_files.specs.StoredFiles.{StoredFile}
-use Rattle.run_files.specs.WrittenOutputs.{files_from, Stores}
 use Rattle.run_files.proofs.outputs.store_all.Given as goal
 
 -- no call has failed, and however the files of the outputs that are left are stored, all are

@@ -1,7 +1,7 @@
 use Rattle.std.proofs.Common.{◌≡◌, ◌+◌, ◌-◌, ◌≤◌, ℕ, List, ◌++◌, length, take, drop, subst, ap, sym, ◌∙◌, arith, length-drop, take-add}
 use Rattle.std.proofs.lemmas.List.{take_rest}
-use Rattle.std.specs.Io.KnownBytes.{Appends}
 use Rattle.std.proofs.KnownBytes.{Appends-trans}
+use Rattle.run_files.specs.{Appends}
 use Rattle.run_files.proofs.streams.write_bytes.Goals as goal
 
 -- what a write takes of the rest joins the first part

@@ -1,5 +1,5 @@
 use Rattle.std.proofs.Common.{◌≡◌, ◌-◌, ◌≤◌, length, take}
-use Rattle.std.specs.Io.KnownBytes.{Appends}
+use Rattle.run_files.specs.{Appends}
 use Rattle.run_files.proofs.streams.write_bytes.Given as goal
 
 -- the writer took the first bytes, and no call has failed

@@ -1,9 +1,8 @@
 use Rattle.std.proofs.Common.{◌+◌, ℕ, List, length, take}
-use Rattle.std.specs.Borrow.{Bor}
 use Rattle.std.proofs.KnownBytes.{Appends-trans}
 use Rattle.std.proofs.lemmas.Result.{err_from_is_err_and}
-use Rattle.run_files.specs.Streams.{joined}
-use Rattle.run_files.proofs.PrintedPart.{printed_at}
+use Rattle.run_files.specs.{Bor, joined}
+use Rattle.run_files.proofs.StoredFiles.{printed_at}
 use Rattle.run_files.proofs.streams.write_texts.Goals as goal
 
 pub returns-in_err-write_bytes-clause-first_part : goal.returns-in_err-write_bytes-clause-first_part

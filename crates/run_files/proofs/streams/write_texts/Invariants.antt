@@ -1,6 +1,5 @@
 use Rattle.std.proofs.Common.{◌≡◌, take}
-use Rattle.std.specs.Io.KnownBytes.{Appends}
-use Rattle.run_files.specs.Streams.{joined}
+use Rattle.run_files.specs.{Appends, joined}
 use Rattle.run_files.proofs.streams.write_texts.Given as goal
 
 abbrev pub invariant-loop-text : goal.invariant-loop-text

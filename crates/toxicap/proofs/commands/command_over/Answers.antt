@@ -1,11 +1,5 @@
 use Rattle.std.proofs.Common.{◌≡◌, ℕ, List, Option, OnOk, Ok, Err, Result, refl, ap, sym, subst, ◌∙◌}
-use Rattle.command_line.specs.declared.asked.Asked.{Asked}
-use Rattle.conn_workers.specs.declared.summaries.RunSummary.{RunSummary}
-use Rattle.disks.specs.ReadFiles.{ReadFilesView}
-use Rattle.run_files.specs.declared.error.RunFault.{RunFault}
-use Rattle.toxicap.specs.Commands.{of_run}
-use Rattle.toxicap.specs.KeptInputs.{SweptAfter, SweptFor}
-use Rattle.toxicap.specs.RunEnds.{without_value}
+use Rattle.toxicap.specs.{Asked, RunSummary, ReadFilesView, RunFault, of_run, SweptAfter, SweptFor, without_value}
 use Rattle.toxicap.proofs.commands.command_over.Goals as goal
 
 same_fault : (run : Result RunSummary RunFault) → without_value run ≡ without_value (of_run run)

@@ -1,4 +1,4 @@
-use Rattle.toxicap.specs.RunEnds.{text_with_line_feed, written}
+use Rattle.toxicap.specs.{text_with_line_feed, written}
 use Rattle.toxicap.proofs.RunSteps.{so_far, writes}
 use Rattle.toxicap.proofs.commands.write_line.Goals as goal
 

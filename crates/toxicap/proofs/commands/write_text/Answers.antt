@@ -1,4 +1,4 @@
-use Rattle.toxicap.specs.RunEnds.{written}
+use Rattle.toxicap.specs.{written}
 use Rattle.toxicap.proofs.RunSteps.{so_far, writes}
 use Rattle.toxicap.proofs.commands.write_text.Goals as goal
 

@@ -1,9 +1,7 @@
 use Rattle.std.proofs.Common.{◌≡◌, ℕ, ◌<◌, ◌==◌, List, length, Option, Some, None, option_map, refl, arith, lit≤}
 use Rattle.std.proofs.lemmas.Bool.{lt-ltb, le-ltb}
 use Rattle.std.proofs.lemmas.Str.Pattern.{IsSplitOnceResult, split_once_first}
-use Rattle.std.specs.Borrow.{Bor}
-use Rattle.std.specs.List.{position_or_len}
-use Rattle.toxicap.specs.Inputs.{cut_at_first}
+use Rattle.toxicap.specs.{Bor, position_or_len, cut_at_first}
 use Rattle.toxicap.proofs.host_lines.cut_at_equals.Goals as goal
 
 -- std's cut at the first place of a character is `cut_at_first`

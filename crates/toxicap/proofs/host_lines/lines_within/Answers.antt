@@ -1,7 +1,7 @@
 use Rattle.std.proofs.Common.{rules, tests}
 use Rattle.std.proofs.lemmas.Iterator.Consumers.{map_from_collect}
 use Rattle.std.proofs.lemmas.Iterator.Splits.{YieldsList-from_slice_split}
-use Rattle.toxicap.specs.HostLines.{is_line_feed}
+use Rattle.toxicap.specs.{is_line_feed}
 use Rattle.toxicap.proofs.host_lines.lines_within.Goals as goal
 
 pub returns : goal.returns

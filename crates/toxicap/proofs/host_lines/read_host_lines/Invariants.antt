@@ -1,6 +1,5 @@
 use Rattle.std.proofs.Common.{◌≡◌, [], drop, length, map}
-use Rattle.toxicap.specs.HostLines.{host_lines}
-use Rattle.toxicap.specs.Inputs.{hosts_from}
+use Rattle.toxicap.specs.{host_lines, hosts_from}
 use Rattle.toxicap.proofs.host_lines.read_host_lines.Given as goal
 
 abbrev pub invariant-loop-at : goal.invariant-loop-at

@@ -1,5 +1,5 @@
 use Rattle.std.proofs.Common.{◌≡◌, [], drop, length, map}
-use Rattle.toxicap.specs.Inputs.{hosts_from}
+use Rattle.toxicap.specs.{hosts_from}
 use Rattle.toxicap.proofs.host_lines.read_hosts.Given as goal
 
 abbrev pub invariant-loop-at : goal.invariant-loop-at

@@ -1,23 +1,11 @@
-use Rattle.std.proofs.Common.{◌≡◌, ◌≤◌, ℕ, ◌+◌, ◌-◌, List, [], length, map, take, Option, Some, None, Result, Ok, option_map, refl, sym, ap, subst, ◌∙◌, arith, append-nil}
-use Rattle.std.specs.Borrow.{Bor}
+use Rattle.std.proofs.Common.{◌≡◌, ◌≤◌, ℕ, ◌+◌, ◌-◌, List, [], length, map, take, Option, Some, None, Result, Ok, option_map, refl, sym, ap, subst, ◌∙◌, arith}
+use Rattle.std.proofs.Common.{append-nil}
 use Rattle.std.proofs.Math.Path.{fun_ext}
 use Rattle.std.proofs.Math.Seq.{take-append-add}
 use Rattle.std.proofs.lemmas.List.Sums.{fold-append}
-use Rattle.disks.specs.FileContents.{Held}
-use Rattle.disks.specs.Histories.{History, PublishedAgain, PublishedFile, Publishes, held_after, held_at, held_now, with_published}
-use Rattle.scenarios.specs.declared.hosts.KnownHost.{KnownHost}
-use Rattle.command_line.specs.declared.asked.Asked.{Asked}
-use Rattle.conn_workers.specs.declared.summaries.RunSummary.{RunSummary}
-use Rattle.run_files.specs.declared.error.RunFault.{RunFault}
-use Rattle.run_files.specs.declared.outputs.Output.{Output}
-use Rattle.run_files.specs.Folders.{in_folder}
-use Rattle.run_files.specs.WrittenOutputs.{files_from}
-use Rattle.toxicap.specs.Answering.{called_for}
-use Rattle.toxicap.specs.Commands.{AnswersInto, RunsBy, Streams}
-use Rattle.toxicap.specs.Inputs.{LoadsCapture, LoadsFiles, hosts_asked, texts_from, texts_or_no_proxies}
-use Rattle.toxicap.specs.KilledRuns.{outputs_asked}
-use Rattle.toxicap.specs.RunEnds.{UnlessMemory}
-use Rattle.toxicap.specs.StoredOutputs.{disk_histories}
+use Rattle.toxicap.specs.{Bor, Held, History, PublishedAgain, PublishedFile, Publishes, held_after, held_at, held_now, with_published, KnownHost, Asked}
+use Rattle.toxicap.specs.{RunSummary, RunFault, Output, in_folder, files_from, answer_of_texts, PrintsOrStores, RunsBy, Streams, LoadsCapture, LoadsFiles}
+use Rattle.toxicap.specs.{hosts_asked, texts_from, texts_or_no_proxies, answer_of_asked, UnlessMemory, disk_histories}
 use Rattle.toxicap.proofs.RunSteps.{went_on}
 use Rattle.toxicap.proofs.laws.killed_runs_are_mended.Goals as goal
 
@@ -42,7 +30,7 @@ module _ (published_again : PublishedAgain) (old new cut mended : History) (n : 
       ap at again ∙ published_again (held_now old) files (n - length old.published) path ∙ ap at (sym whole)
 
   answers_same : (out two : Option (Bor (List ℕ))) → option_map (λ f. f.now) out ≡ option_map (λ f. f.now) two → (expected again : Result (List Output) RunFault) → again ≡ expected
-      → (s t : Streams) → AnswersInto out (Ok tt) expected (disk_histories (Some old) (Some new)) s → AnswersInto two (Ok tt) again (disk_histories (Some cut) (Some mended)) t
+      → (s t : Streams) → PrintsOrStores out (Ok tt) expected (disk_histories (Some old) (Some new)) s → PrintsOrStores two (Ok tt) again (disk_histories (Some cut) (Some mended)) t
       → held_now mended path ≡ held_now new path
   answers_same None None into expected again is s t one twice = published_twice [] (one.1 ∙ none_published old) (twice.1 ∙ none_published cut)
   answers_same (Some folder) (Some same) into expected again is s t one twice =
@@ -55,19 +43,19 @@ module _ (published_again : PublishedAgain) (old new cut mended : History) (n : 
   answers_same (Some folder) None into expected again is s t one twice = absurd (cc)
 
 asked_for : (held : Held) (asked : Asked) (text : List ℕ) (hosts : List KnownHost) (files : List (List ℕ)) → hosts_asked asked ≡ Ok hosts
-    → texts_from held [] (map (λ path. path.now) asked.scenarios.items) ≡ Ok files → outputs_asked held asked text ≡ called_for hosts (texts_or_no_proxies files) asked.seed text
+    → texts_from held [] (map (λ path. path.now) asked.scenarios.items) ≡ Ok files → answer_of_asked held asked text ≡ answer_of_texts hosts (texts_or_no_proxies files) asked.seed text
 asked_for held asked text hosts files known read = rw (known, read) refl
 
 -- what a run that ended well called for
 called : (old : History) (after : Option History) (asked : Asked) (s : Streams) (summary : RunSummary) → RunsBy asked (Ok summary) (disk_histories (Some old) after) s
-    → (text : List ℕ) × LoadsCapture (Some old) asked.capture s.Unread s.Loaded (Ok text)
-    × AnswersInto asked.out (Ok tt) (outputs_asked (held_now old) asked text) (disk_histories (Some old) after) s
+    → (text : List ℕ) × LoadsCapture (Some old) asked.capture s.InputUnread s.Loaded (Ok text)
+    × PrintsOrStores asked.out (Ok tt) (answer_of_asked (held_now old) asked text) (disk_histories (Some old) after) s
 called old after asked s summary run =
     let (hosts, known, from_hosts) = went_on (UnlessMemory (hosts_asked asked)) summary _ _ run in
     let (files, read, from_files) = went_on (LoadsFiles (Some old) asked.scenarios.items) summary _ _ from_hosts in
-    let (text, loaded, ends) = went_on (LoadsCapture (Some old) asked.capture s.Unread s.Loaded) summary _ _ from_files in
+    let (text, loaded, ends) = went_on (LoadsCapture (Some old) asked.capture s.InputUnread s.Loaded) summary _ _ from_files in
     let calls = asked_for (held_now old) asked text hosts files known read.2 in
-    (text, loaded, subst (λ (expected : Result (List Output) RunFault). AnswersInto asked.out (Ok tt) expected (disk_histories (Some old) after) s) (sym calls) ends.0)
+    (text, loaded, subst (λ (expected : Result (List Output) RunFault). PrintsOrStores asked.out (Ok tt) expected (disk_histories (Some old) after) s) (sym calls) ends.0)
 
 pub returns : goal.returns
 returns g c = λ words asked again old new cut mended n path r r2 s s2 w w2 x x2 first other reads run later begins reads2 run2 calls.

@@ -1,4 +1,4 @@
-use Rattle.toxicap.proofs.SeenReports.{reports_see_lengths}
+use Rattle.toxicap.proofs.ReportLines.{reports_see_lengths}
 use Rattle.toxicap.proofs.laws.reports_see_lengths.Goals as goal
 
 pub returns : goal.returns

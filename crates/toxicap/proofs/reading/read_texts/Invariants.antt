@@ -1,5 +1,5 @@
 use Rattle.std.proofs.Common.{◌≡◌, [], drop, length, map}
-use Rattle.toxicap.specs.Answering.{scenarios_from}
+use Rattle.toxicap.specs.{scenarios_from}
 use Rattle.toxicap.proofs.reading.read_texts.Given as goal
 
 abbrev pub invariant-loop-number : goal.invariant-loop-number

@@ -1,23 +1,11 @@
 use Rattle.std.proofs.Common.{◌≡◌, ℕ, ◌<◌, List, [], ◌∷◌, ◌++◌, length, drop, sym, ap, ap₂, ◌∙◌, subst, arith}
-use Rattle.std.specs.List.{enumerate_from}
-use Rattle.std.specs.Vec.Iter.{into_iter_items}
 use Rattle.std.proofs.lemmas.List.{length-drop, take_all}
 use Rattle.std.proofs.lemmas.List.Elements.{All-same}
 use Rattle.std.proofs.lemmas.List.FromFn.{length-enumerate_from}
-use Rattle.pcap_records.specs.CaptureView.{contents_of}
-use Rattle.conn_table.specs.Connections.{Connection}
-use Rattle.conn_table.specs.SeenCapture.{SeenCapture, seen_capture}
-use Rattle.segment_writer.specs.declared.framed.Framed.{Framed}
-use Rattle.segment_writer.specs.KeyLaws.{HasNoKeyTwice}
-use Rattle.segment_writer.specs.WrittenSegments.{sorted_by_key}
-use Rattle.time_merge.specs.MergedCapture.{all_segments}
-use Rattle.scenarios.specs.declared.proxies.Proxy.{Proxy}
-use Rattle.conn_workers.specs.DeliveryRows.{connections_of, delivery_of, deliveries}
-use Rattle.toxicap.specs.GatheredOutputs.{segments_in, lines_in, gathered_output}
-use Rattle.toxicap.specs.Rehearsal.{scenario_output, outputs_of}
-use Rattle.toxicap.proofs.WholeTables.{as_many, unopened_is}
-use Rattle.toxicap.proofs.RowSteps.{mapped_more, row_fits, row_left}
-use Rattle.toxicap.proofs.GatheredRows.{next_scenario, next_row, next_number, row_is_sorted, row_stands_once, gathered_is}
+use Rattle.toxicap.specs.{enumerate_from, into_iter_items, contents_of, Connection, SeenCapture, seen_capture, Framed, HasNoKeyTwice, sorted_by_key}
+use Rattle.toxicap.specs.{all_segments, Proxy, connections_of, delivery_of, deliveries, segments_in, lines_in, gathered_output, scenario_output, outputs_of}
+use Rattle.toxicap.proofs.OutputSteps.{as_many, unopened_is}
+use Rattle.toxicap.proofs.GatheredRows.{mapped_more, row_fits, row_left, next_scenario, next_row, next_number, row_is_sorted, row_stands_once, gathered_is}
 use Rattle.toxicap.proofs.rehearsal.list_outputs.Goals as goal
 
 pub loop-number-init : goal.loop-number-init

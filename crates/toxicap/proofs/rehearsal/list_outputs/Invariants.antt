@@ -1,10 +1,5 @@
 use Rattle.std.proofs.Common.{◌≡◌, map, length, take, drop}
-use Rattle.std.specs.List.{enumerate_from}
-use Rattle.std.specs.Vec.Iter.{into_iter_items, into_iter_len}
-use Rattle.pcap_records.specs.CaptureView.{contents_of}
-use Rattle.conn_table.specs.SeenCapture.{seen_capture}
-use Rattle.conn_workers.specs.DeliveryRows.{connections_of, delivery_of, rows}
-use Rattle.toxicap.specs.Rehearsal.{scenario_output}
+use Rattle.toxicap.specs.{enumerate_from, into_iter_items, into_iter_len, contents_of, seen_capture, connections_of, delivery_of, rows, scenario_output}
 use Rattle.toxicap.proofs.rehearsal.list_outputs.Given as goal
 
 abbrev pub invariant-loop-number : goal.invariant-loop-number

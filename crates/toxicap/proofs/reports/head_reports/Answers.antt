@@ -1,10 +1,8 @@
 use Rattle.std.proofs.Common.{◌≡◌, ◌∙◌, Ok, ap, sym, arith}
 use Rattle.std.proofs.lemmas.Result.{err_from_is_err_and}
-use Rattle.pcap_records.specs.CaptureView.{contents_of}
 use Rattle.pcap_records.specs.Heads.{heads_of}
-use Rattle.toxicap.specs.PrintedReports.{reports_in}
-use Rattle.toxicap.specs.Rehearsal.{answer}
-use Rattle.toxicap.proofs.SeenReports.{heads_reported, heads_summed, refused_heads, too_many}
+use Rattle.toxicap.specs.{contents_of, reports_in, answer}
+use Rattle.toxicap.proofs.ReportLines.{heads_reported, heads_summed, refused_heads, too_many}
 use Rattle.toxicap.proofs.TextsTaken.{of_fault_printed}
 use Rattle.toxicap.proofs.reports.head_reports.Goals as goal
 

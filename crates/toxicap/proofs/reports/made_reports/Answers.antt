@@ -1,7 +1,7 @@
 use Rattle.std.proofs.Common.{◌≡◌, length, sym, ◌∙◌}
 use Rattle.std.proofs.lemmas.List.Elements.{All-weaker}
-use Rattle.conn_workers.specs.declared.scenario_texts.ShareTexts.{ShareTexts}
-use Rattle.toxicap.proofs.HeldReportSteps.{as_many_heads, held_are}
+use Rattle.toxicap.specs.{ShareTexts}
+use Rattle.toxicap.proofs.OutputSteps.{as_many_heads, held_are}
 use Rattle.toxicap.proofs.reports.made_reports.Goals as goal
 
 pub of-requires : goal.of-requires

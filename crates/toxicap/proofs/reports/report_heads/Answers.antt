@@ -1,11 +1,7 @@
 use Rattle.std.proofs.Common.{ℕ, List, [], ◌∷◌, ◌++◌, length, ap, ap₂, sym, ◌∙◌, arith}
 use Rattle.std.proofs.lemmas.List.FromFn.{map-range_with_len_more}
-use Rattle.pcap_records.specs.CaptureView.{contents_of}
-use Rattle.conn_table.specs.SeenCapture.{seen_capture}
-use Rattle.conn_table.specs.Tables.{TableView}
-use Rattle.report.specs.ReportText.{connections_text, counts_text}
-use Rattle.toxicap.specs.HeadsAndRows.{head_of}
-use Rattle.toxicap.proofs.WholeTables.{counts_are}
+use Rattle.toxicap.specs.{contents_of, seen_capture, TableView, connections_text, counts_text, head_of}
+use Rattle.toxicap.proofs.OutputSteps.{counts_are}
 use Rattle.toxicap.proofs.reports.report_heads.Goals as goal
 
 pub report_head-requires : goal.report_head-requires

@@ -1,5 +1,5 @@
 use Rattle.std.proofs.Common.{◌≡◌}
-use Rattle.toxicap.specs.HeadsAndRows.{heads_of}
+use Rattle.toxicap.specs.{heads_of}
 use Rattle.toxicap.proofs.reports.report_heads.Given as goal
 
 abbrev pub invariant-loop-number : goal.invariant-loop-number

@@ -1,7 +1,6 @@
 use Rattle.std.proofs.Common.{map, subst}
 use Rattle.std.proofs.lemmas.Result.{err_from_is_err_and}
-use Rattle.run_files.specs.SeenTexts.{IsSeenOf}
-use Rattle.toxicap.specs.Answering.{answer_of}
+use Rattle.toxicap.specs.{IsSeenOf, answer_of}
 use Rattle.toxicap.proofs.TextsTaken.{of_fault_printed, refused_inputs, refused_scenarios, seen_inputs, taken_summary}
 use Rattle.toxicap.proofs.reports.seen_reports.Goals as goal
 

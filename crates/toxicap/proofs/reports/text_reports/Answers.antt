@@ -1,6 +1,5 @@
 use Rattle.std.proofs.lemmas.Result.{err_from_is_err_and}
-use Rattle.run_files.specs.RunFault.{run_refusal}
-use Rattle.toxicap.specs.Answering.{answer_of}
+use Rattle.toxicap.specs.{run_refusal, answer_of}
 use Rattle.toxicap.proofs.TextsTaken.{agrees_unless_memory, of_fault_printed, refused_inputs, taken_summary}
 use Rattle.toxicap.proofs.reports.text_reports.Goals as goal
 

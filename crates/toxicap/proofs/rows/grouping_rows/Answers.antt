@@ -1,6 +1,5 @@
 use Rattle.std.proofs.Common.{refl}
-use Rattle.conn_table.specs.Connections.{beginnings, connections, unopened_count}
-use Rattle.reassembly.specs.Positions.{server_base}
+use Rattle.toxicap.specs.{beginnings, connections, unopened_count, server_base}
 use Rattle.toxicap.proofs.rows.grouping_rows.Goals as goal
 
 pub returns-clause-repeated : goal.returns-clause-repeated

@@ -1,17 +1,10 @@
 use Rattle.std.proofs.Common.{◌≡◌, ◌≤◌, ◌*◌, ℕ, List, length, take, Option, refl, sym, ap, subst, arith, rules}
-use Rattle.std.specs.Vec.Iter.{into_iter_items}
 use Rattle.std.proofs.lemmas.List.{take_all}
 use Rattle.std.proofs.lemmas.Result.{err_from_is_err_and}
-use Rattle.disks.specs.Histories.{History}
-use Rattle.run_files.specs.declared.outputs.Output.{Output}
-use Rattle.run_files.specs.Folders.{CommitsIn}
-use Rattle.run_files.specs.WrittenOutputs.{files_from}
-use Rattle.toxicap.specs.CaptureOutputs.{outputs_from}
-use Rattle.toxicap.proofs.InputsKept.{Leaves-same, Leaves-then}
+use Rattle.toxicap.specs.{into_iter_items, History, Output, CommitsIn, files_from, outputs_of_sources}
+use Rattle.toxicap.proofs.RunSteps.{Leaves-same, Leaves-then}
 use Rattle.toxicap.proofs.OutputSteps.{as_many_outputs}
-use Rattle.toxicap.proofs.ReadyDrafts.{outputs_in, ready_outputs, takes_first}
-use Rattle.toxicap.proofs.StoringEnds.{nothing_committed, replaced}
-use Rattle.toxicap.proofs.StoredSteps.{length-files_from, committed_more, stops_at}
+use Rattle.toxicap.proofs.StoringEnds.{outputs_in, ready_outputs, takes_first, nothing_committed, replaced, length-files_from, committed_more, stops_at}
 use Rattle.toxicap.proofs.storing.store_each.Goals as goal
 
 pub loop-number-init : goal.loop-number-init
@@ -22,7 +15,7 @@ loop-draft-init g c =
     let loop = c.loop-number.invariant in
     let drafts = c.in_ok-drafts.drafts.items in
     let items : into_iter_items c.into_iter-draft-iterator.result ≡ drafts = search rules in
-    let ready = ready_outputs c.args.folder.now.path (outputs_from c.args.sources.now) c.loop-number.number drafts c.in_ok-drafts.ensures.next in
+    let ready = ready_outputs c.args.folder.now.path (outputs_of_sources c.args.sources.now) c.loop-number.number drafts c.in_ok-drafts.ensures.next in
     record {
       can_next = tt;
       is_finite = tt;
@@ -39,18 +32,18 @@ returns-in_err-drafts-clause-stored g c =
     let fault = err_from_is_err_and c.from_residual.result c.from_residual.ensures.1 in
     rw (fault.1, fault.2) (
       2 * c.loop-number.number,
-      omega (arith, c.loop-number-test.true, as_many_outputs c.args.sources.now, length-files_from 0 (outputs_from c.args.sources.now)),
+      omega (arith, c.loop-number-test.true, as_many_outputs c.args.sources.now, length-files_from 0 (outputs_of_sources c.args.sources.now)),
       c.loop-number.invariant.committed,
     )
 
 pub store_draft-requires-clause-number : goal.store_draft-requires-clause-number
 store_draft-requires-clause-number g c =
-    let first = takes_first (outputs_from c.args.sources.now) _ _ c.loop-draft.number c.in-Some.draft.output c.loop-draft.invariant.left (ap outputs_in c.in-Some.ensures.steps.0) in
+    let first = takes_first (outputs_of_sources c.args.sources.now) _ _ c.loop-draft.number c.in-Some.draft.output c.loop-draft.invariant.left (ap outputs_in c.in-Some.ensures.steps.0) in
     omega (arith, first.below, as_many_outputs c.args.sources.now, c.args.sources.now.few)
 
 pub overflow_add-number : goal.overflow_add-number
 overflow_add-number g c =
-    let first = takes_first (outputs_from c.args.sources.now) _ _ c.loop-draft.number c.in-Some.draft.output c.loop-draft.invariant.left (ap outputs_in c.in-Some.ensures.steps.0) in
+    let first = takes_first (outputs_of_sources c.args.sources.now) _ _ c.loop-draft.number c.in-Some.draft.output c.loop-draft.invariant.left (ap outputs_in c.in-Some.ensures.steps.0) in
     omega (arith, first.below, as_many_outputs c.args.sources.now, c.args.sources.now.few)
 
 pub returns-in_err-drafts-clause-faults : goal.returns-in_err-drafts-clause-faults
@@ -60,7 +53,7 @@ returns-in_err-drafts-clause-faults g c =
 
 pub returns-in_err-store_draft-clause-stored : goal.returns-in_err-store_draft-clause-stored
 returns-in_err-store_draft-clause-stored g c =
-    let all : List Output = outputs_from c.args.sources.now in
+    let all : List Output = outputs_of_sources c.args.sources.now in
     let loop = c.loop-draft.invariant in
     let first = takes_first all _ _ c.loop-draft.number c.in-Some.draft.output loop.left (ap outputs_in c.in-Some.ensures.steps.0) in
     let fault = err_from_is_err_and c.from_residual-in_err-store_draft.result c.from_residual-in_err-store_draft.ensures.1 in
@@ -74,7 +67,7 @@ returns-in_err-store_draft-clause-faults g c =
 
 pub loop-draft-preserved : goal.loop-draft-preserved
 loop-draft-preserved g c =
-    let all : List Output = outputs_from c.args.sources.now in
+    let all : List Output = outputs_of_sources c.args.sources.now in
     let loop = c.loop-draft.invariant in
     let first = takes_first all _ _ c.loop-draft.number c.in-Some.draft.output loop.left (ap outputs_in c.in-Some.ensures.steps.0) in
     record {
@@ -91,7 +84,7 @@ loop-draft-preserved g c =
 
 pub returns-in_err-see_committed-clause-stored : goal.returns-in_err-see_committed-clause-stored
 returns-in_err-see_committed-clause-stored g c =
-    let all : List Output = outputs_from c.args.sources.now in
+    let all : List Output = outputs_of_sources c.args.sources.now in
     let folder : List ℕ = c.args.folder.now.path in
     let files = take (2 * c.loop-number.number) (files_from 0 all) in
     let seen = c.in_err-see_committed.ensures in
@@ -102,7 +95,7 @@ returns-in_err-see_committed-clause-stored g c =
 
 pub returns-clause-stored : goal.returns-clause-stored
 returns-clause-stored g c =
-    let all : List Output = outputs_from c.args.sources.now in
+    let all : List Output = outputs_of_sources c.args.sources.now in
     let over : length (files_from 0 all) ≤ 2 * c.loop-number.number =
     omega (arith, c.loop-number-test.false, as_many_outputs c.args.sources.now, length-files_from 0 all) in
     subst (λ (h : Option History). CommitsIn c.args.folder.now.path (g.D.Disk.history c.args.disk.now) h (files_from 0 all)) (sym c.in_ok-see_committed.ensures.as_before)

@@ -1,15 +1,12 @@
 use Rattle.std.proofs.Common.{◌≡◌, ◌<◌, ◌+◌, ◌-◌, ◌*◌, length, take, drop}
-use Rattle.std.specs.Vec.Iter.{into_iter_items}
-use Rattle.run_files.specs.Folders.{CommitsIn, Leaves}
-use Rattle.run_files.specs.WrittenOutputs.{files_from}
-use Rattle.toxicap.specs.CaptureOutputs.{outputs_from}
-use Rattle.toxicap.proofs.ReadyDrafts.{outputs_in}
+use Rattle.toxicap.specs.{into_iter_items, CommitsIn, Leaves, files_from, outputs_of_sources}
+use Rattle.toxicap.proofs.StoringEnds.{outputs_in}
 use Rattle.toxicap.proofs.storing.store_each.Given as goal
 
 -- committed are the files of the outputs before this number, and no call of the disk failed
 abbrev pub invariant-loop-number : goal.invariant-loop-number
 invariant-loop-number g l = record {
-  committed : CommitsIn l.folder.path (g.D.Disk.history l.fn.disk) (g.D.Disk.history l.disk) (take (2 * l.number) (files_from 0 (outputs_from l.sources)));
+  committed : CommitsIn l.folder.path (g.D.Disk.history l.fn.disk) (g.D.Disk.history l.disk) (take (2 * l.number) (files_from 0 (outputs_of_sources l.sources)));
   leaves : Leaves l.folder (g.D.Disk.standing l.fn.disk) (g.D.Disk.standing l.disk);
   swept : g.D.Disk.is_swept l.fn.disk l.folder.path l.folder.read → g.D.Disk.is_swept l.disk l.folder.path l.folder.read;
   no_fault : g.D.Disk.faults l.disk ≡ g.D.Disk.faults l.fn.disk;
@@ -23,10 +20,10 @@ abbrev pub invariant-loop-draft : goal.invariant-loop-draft
 invariant-loop-draft g l = record {
   can_next : (goal.iterator-loop-draft g).can_next l.draft-iterator;
   is_finite : (goal.iterator-loop-draft g).is_finite l.draft-iterator;
-  committed : CommitsIn l.folder.path (g.D.Disk.history l.fn.disk) (g.D.Disk.history l.disk) (take (2 * l.number) (files_from 0 (outputs_from l.sources)));
+  committed : CommitsIn l.folder.path (g.D.Disk.history l.fn.disk) (g.D.Disk.history l.disk) (take (2 * l.number) (files_from 0 (outputs_of_sources l.sources)));
   leaves : Leaves l.folder (g.D.Disk.standing l.fn.disk) (g.D.Disk.standing l.disk);
   swept : g.D.Disk.is_swept l.fn.disk l.folder.path l.folder.read → g.D.Disk.is_swept l.disk l.folder.path l.folder.read;
   no_fault : g.D.Disk.faults l.disk ≡ g.D.Disk.faults l.fn.disk;
-  left : outputs_in (into_iter_items l.draft-iterator) ≡ take (length (outputs_in (into_iter_items l.draft-iterator))) (drop l.number (outputs_from l.sources));
+  left : outputs_in (into_iter_items l.draft-iterator) ≡ take (length (outputs_in (into_iter_items l.draft-iterator))) (drop l.number (outputs_of_sources l.sources));
   rises : l.initial.number < l.number + length (into_iter_items l.draft-iterator);
 }

@@ -1,11 +1,9 @@
 use Rattle.std.proofs.Common.{Ok, Err, refl, arith}
 use Rattle.std.proofs.lemmas.Result.{err_from_is_err_and}
-use Rattle.toxicap.specs.Answering.{answer_of}
-use Rattle.toxicap.specs.CaptureOutputs.{outputs_for}
-use Rattle.toxicap.proofs.AnswerSteps.{of_answer}
+use Rattle.toxicap.specs.{answer_of, outputs_of_capture}
+use Rattle.toxicap.proofs.TextsTaken.{of_answer, told_refusal}
 use Rattle.toxicap.proofs.OutputSteps.{as_many_for}
 use Rattle.toxicap.proofs.StoringEnds.{not_held, refused_faults}
-use Rattle.toxicap.proofs.TextsTaken.{told_refusal}
 use Rattle.toxicap.proofs.storing.store_rehearsal.Goals as goal
 
 pub returns-in_err-capture-clause-stored : goal.returns-in_err-capture-clause-stored
@@ -27,7 +25,7 @@ returns-in_err-hold_for-clause-stored g c =
     let held = c.in_err-hold_for.ensures in
     let fault = err_from_is_err_and c.from_residual-in_err-hold_for.result c.from_residual-in_err-hold_for.ensures.1 in
     let scenarios = c.as_slice-scenarios.result.now in
-    let expected = outputs_for c.in_ok-capture.capture scenarios c.args.inputs.now.seed in
+    let expected = outputs_of_capture c.in_ok-capture.capture scenarios c.args.inputs.now.seed in
     let many = as_many_for c.in_ok-capture.capture scenarios c.args.inputs.now.seed in
     let answered = rw c.bytes.ensures at c.in_ok-capture.ensures.answered c.args.inputs.now.seed in
     rw (fault.1, fault.2, ← c.as_slice-scenarios.ensures) (
@@ -45,7 +43,7 @@ pub returns-clause-stored : goal.returns-clause-stored
 returns-clause-stored g c =
     let answered = rw c.bytes.ensures at c.in_ok-capture.ensures.answered c.args.inputs.now.seed in
     rw (← c.as_slice-scenarios.ensures) (
-      Ok (outputs_for c.in_ok-capture.capture c.as_slice-scenarios.result.now c.args.inputs.now.seed),
+      Ok (outputs_of_capture c.in_ok-capture.capture c.as_slice-scenarios.result.now c.args.inputs.now.seed),
       answered,
       rw (← c.in_ok-hold_for.ensures.as_before) c.store_outputs.ensures.stored,
     )

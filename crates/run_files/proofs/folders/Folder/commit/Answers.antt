@@ -1,8 +1,6 @@
 use Rattle.std.proofs.Common.{rules, ◌≡◌, ℕ, List, false, IfSome}
-use Rattle.disks.specs.DraftPaths.{path_in}
-use Rattle.disks.specs.Standing.{ChangesAt, HasRead}
-use Rattle.run_files.specs.Folders.{is_refused}
-use Rattle.run_files.proofs.KeptFiles.{Leaves-published}
+use Rattle.run_files.specs.{path_in, ChangesAt, HasRead, is_refused}
+use Rattle.run_files.proofs.StoredFiles.{Leaves-published}
 use Rattle.run_files.proofs.folders.Folder.commit.Goals as goal
 
 pub returns-in-Ok-publish-clause-leaves : goal.returns-in-Ok-publish-clause-leaves

@@ -1,6 +1,6 @@
 use Rattle.std.proofs.Common.{◌≡◌, ◌∙◌, ◌==◌, false, List, ℕ, length, ap, subst, sym, rules}
-use Rattle.disks.specs.DraftPaths.{path_in, IsDraftPath}
-use Rattle.run_files.proofs.DraftNames.{draft_path_in}
+use Rattle.run_files.specs.{path_in, IsDraftPath}
+use Rattle.run_files.proofs.StoredFiles.{draft_path_in}
 use Rattle.run_files.proofs.folders.Folder.draft_path.Goals as goal
 
 pub returns-clause-is : goal.returns-clause-is

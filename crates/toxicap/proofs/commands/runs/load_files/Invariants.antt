@@ -1,8 +1,6 @@
 use Rattle.std.proofs.Common.{◌≡◌, [], drop, length, map}
 use Rattle.std.specs.Prelude.{IfSome}
-use Rattle.disks.specs.Histories.{held_now}
-use Rattle.toxicap.specs.Inputs.{texts_from}
-use Rattle.toxicap.specs.KeptInputs.{with_files}
+use Rattle.toxicap.specs.{held_now, texts_from, with_files}
 use Rattle.toxicap.proofs.commands.runs.load_files.Given as goal
 
 abbrev pub invariant-loop-path : goal.invariant-loop-path

@@ -1,10 +1,8 @@
 use Rattle.std.proofs.Common.{◌≡◌, map, Ok, Err, refl, ◌∙◌}
 use Rattle.std.proofs.lemmas.List.{length-map}
 use Rattle.std.proofs.lemmas.Result.{err_from_is_err_and}
-use Rattle.run_files.specs.declared.error.RunFault.TheVariants.{Memory}
-use Rattle.toxicap.specs.Inputs.{texts_or_no_proxies}
-use Rattle.toxicap.proofs.InputsKept.{inputs_stand}
-use Rattle.toxicap.proofs.RunSteps.{then_seen, then_unseen}
+use Rattle.toxicap.specs.{Memory, texts_or_no_proxies}
+use Rattle.toxicap.proofs.RunSteps.{inputs_stand, then_seen, then_unseen}
 use Rattle.toxicap.proofs.commands.runs.run_asked.Goals as goal
 
 pub returns-in_err-hosts-clause-runs : goal.returns-in_err-hosts-clause-runs

@@ -1,10 +1,8 @@
 use Rattle.std.proofs.Common.{map, Err, refl, arith}
 use Rattle.std.proofs.lemmas.Result.{err_from_is_err_and}
-use Rattle.toxicap.proofs.AnswerSteps.{of_called}
-use Rattle.toxicap.specs.Answering.{answer_of}
-use Rattle.toxicap.specs.RunEnds.{without_value}
+use Rattle.toxicap.specs.{answer_of, without_value}
+use Rattle.toxicap.proofs.TextsTaken.{of_called, refused_inputs, taken_summary}
 use Rattle.toxicap.proofs.StoringEnds.{refused_faults, stores_in}
-use Rattle.toxicap.proofs.TextsTaken.{refused_inputs, taken_summary}
 use Rattle.toxicap.proofs.commands.runs.store_answers.Goals as goal
 
 pub returns-in_err-inputs-clause-stored : goal.returns-in_err-inputs-clause-stored

@@ -1,6 +1,6 @@
 use Rattle.std.proofs.Common.{length, ap, ◌∙◌}
 use Rattle.std.proofs.lemmas.List.FromFn.{length-map-range_with_len}
-use Rattle.toxicap.specs.HeadsAndRows.{head_of}
+use Rattle.toxicap.specs.{head_of}
 use Rattle.toxicap.proofs.OutputSteps.{outputs_are, stand_once}
 use Rattle.toxicap.proofs.sources.Sources.of.Goals as goal
 

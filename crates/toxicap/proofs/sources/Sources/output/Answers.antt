@@ -1,9 +1,6 @@
 use Rattle.std.proofs.Common.{◌≡◌, ◌<◌, [], get_or, length, ap, ◌∙◌, arith}
 use Rattle.std.proofs.lemmas.List.{get_or_default}
-use Rattle.pcap_records.specs.Instants.{ticks_of}
-use Rattle.time_merge.specs.MergedCapture.{capture_of}
-use Rattle.run_files.specs.declared.outputs.Output.{Output}
-use Rattle.toxicap.specs.CaptureOutputs.{no_output, outputs_from}
+use Rattle.toxicap.specs.{ticks_of, capture_of, Output, no_output, outputs_of_sources}
 use Rattle.toxicap.proofs.OutputSteps.{rows_sorted, rows_together}
 use Rattle.toxicap.proofs.sources.Sources.output.Goals as goal
 
@@ -18,7 +15,7 @@ merged_capture-requires-clause-once g c =
 pub returns : goal.returns
 returns g c =
     let own = c.args.self.now in
-    let output : Output = get_or (outputs_from own) c.args.number no_output in
+    let output : Output = get_or (outputs_of_sources own) c.args.number no_output in
     let same = rows_together _ c.in_ok-row.row (c.deref.ensures.value ∙ c.in_ok-rows.ensures) in
     let capture : c.of.result ≡ output.capture = c.of.ensures ∙ c.in_ok-bytes.ensures ∙ ap (capture_of (ticks_of own.unit)) same ∙ c.in_ok-row.ensures.capture in
     let within : c.args.number < length own.heads.now = omega (arith, own.each, c.requires.within) in

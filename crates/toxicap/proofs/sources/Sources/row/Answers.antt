@@ -1,6 +1,6 @@
 use Rattle.std.proofs.Common.{[], ◌++◌, get_or, ap, ◌∙◌}
 use Rattle.std.proofs.lemmas.Result.{IfOk-weaker}
-use Rattle.pcap_records.specs.Instants.{ticks_of}
+use Rattle.toxicap.specs.{ticks_of}
 use Rattle.toxicap.proofs.OutputSteps.{capture_moved, output_is}
 use Rattle.toxicap.proofs.sources.Sources.row.Goals as goal
 

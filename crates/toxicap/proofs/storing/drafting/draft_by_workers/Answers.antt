@@ -1,16 +1,14 @@
 use Rattle.std.proofs.Common.{◌≡◌, ◌<◌, ◌++◌, ◌∙◌, ℕ, List, [], ◌∷◌, length, take, drop, get_or, sym, ap, subst, arith}
-use Rattle.run_files.specs.declared.outputs.Output.{Output}
-use Rattle.toxicap.specs.CaptureOutputs.{no_output, outputs_from}
-use Rattle.toxicap.specs.DraftPlaces.{PlacedOutput, placed_from}
+use Rattle.toxicap.specs.{Output, no_output, outputs_of_sources, PlacedOutput, placed_from}
 use Rattle.toxicap.proofs.OutputSteps.{as_many_outputs}
-use Rattle.toxicap.proofs.ReadyDrafts.{alone, at_place}
+use Rattle.toxicap.proofs.StoringEnds.{alone, at_place}
 use Rattle.toxicap.proofs.storing.drafting.draft_by_workers.Goals as goal
 
 pub returns-clause-next : goal.returns-clause-next
 returns-clause-next g c =
     let own = c.args.sources.now in
     let folder : List ℕ = c.args.folder.now.path in
-    let all : List Output = outputs_from own in
+    let all : List Output = outputs_of_sources own in
     let this : Output = get_or all c.args.number no_output in
     let within : c.args.number < length all = omega (arith, c.requires, as_many_outputs own) in
     let places = c.in_ok-drafted.ensures.places in

@@ -1,15 +1,13 @@
 use Rattle.std.proofs.Common.{◌≡◌, ◌≤◌, ◌+◌, ◌∙◌, ℕ, List, length, take, drop, sym, ap, subst, arith}
-use Rattle.run_files.specs.declared.outputs.Output.{Output}
-use Rattle.toxicap.specs.CaptureOutputs.{outputs_from}
-use Rattle.toxicap.specs.DraftPlaces.{PlacedOutput, placed_from}
+use Rattle.toxicap.specs.{Output, outputs_of_sources, PlacedOutput, placed_from}
 use Rattle.toxicap.proofs.OutputSteps.{as_many_outputs}
-use Rattle.toxicap.proofs.ReadyDrafts.{first_placed, length-placed, length-some}
+use Rattle.toxicap.proofs.StoringEnds.{first_placed, length-placed, length-some}
 use Rattle.toxicap.proofs.storing.drafting.drafts_of_round.Goals as goal
 
 pub work_all-requires-clause-jobs : goal.work_all-requires-clause-jobs
 work_all-requires-clause-jobs g c κs inside =
     let own = c.args.sources.now in
-    let all : List Output = outputs_from own in
+    let all : List Output = outputs_of_sources own in
     let within : c.args.number + c.args.count ≤ length all = omega (arith, c.requires, as_many_outputs own) in
     sym (length-placed c.args.folder.now.path 0 (take c.args.count (drop c.args.number all)) ∙ length-some all c.args.number c.args.count within)
 
@@ -17,7 +15,7 @@ pub returns : goal.returns
 returns g c =
     let own = c.args.sources.now in
     let folder : List ℕ = c.args.folder.now.path in
-    let all : List Output = outputs_from own in
+    let all : List Output = outputs_of_sources own in
     let within : c.args.number + c.args.count ≤ length all = omega (arith, c.requires, as_many_outputs own) in
     let is = c.into_vec-drafts.ensures ∙ c.in_ok-drafts.ensures in
     let many = ap length is ∙ length-placed folder 0 (take c.args.count (drop c.args.number all)) ∙ length-some all c.args.number c.args.count within in

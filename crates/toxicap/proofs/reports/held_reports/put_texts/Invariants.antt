@@ -1,7 +1,0 @@
-use Rattle.std.proofs.Common.{◌≡◌, ◌++◌, take}
-use Rattle.conn_workers.specs.ReportTexts.{text_of}
-use Rattle.run_files.specs.Streams.{joined}
-use Rattle.toxicap.proofs.reports.held_reports.put_texts.Given as goal
-
-abbrev pub invariant-loop-share : goal.invariant-loop-share
-invariant-loop-share l = joined l.texts.items ≡ joined l.initial.texts.items ++ text_of l.number (take l.share-index l.shares)

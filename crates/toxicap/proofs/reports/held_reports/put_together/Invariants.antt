@@ -1,6 +1,0 @@
-use Rattle.std.proofs.Common.{◌≡◌, take}
-use Rattle.run_files.specs.Streams.{joined}
-use Rattle.toxicap.proofs.reports.held_reports.put_together.Given as goal
-
-abbrev pub invariant-loop-text : goal.invariant-loop-text
-invariant-loop-text l = l.whole.items ≡ joined (take l.text-index l.texts)

@@ -1,6 +1,0 @@
-use Rattle.std.proofs.Common.{◌≡◌, ◌++◌, take}
-use Rattle.std.specs.List.{flat_map}
-use Rattle.toxicap.proofs.sources.row_reports.whole_report.Given as goal
-
-abbrev pub invariant-loop-share : goal.invariant-loop-share
-invariant-loop-share l = l.text.items ≡ l.head ++ flat_map (λ s. s.lines) (take l.share-index l.shares)

@@ -36,7 +36,7 @@ pub fn read_arguments<'a, S: AsStr>(alloc: Global, arguments: &'a [S]) -> Result
 {
     match program(alloc)?.try_get_matches_from(arguments) {
         Ok(matches) => Ok(asked_in(alloc, &matches)?),
-        Err(error) => Err(stop_of(alloc, &error)),
+        Err(error) => Err(stop_of(alloc, &error, arguments)),
     }
 }
 
@@ -79,15 +79,42 @@ fn copy_of<'a>(alloc: Global, found: Option<&[&'a str]>) -> Result<Vec<&'a str>,
 }
 
 // If the text finds no memory, the answer is `Stop::Memory`, too.
-fn stop_of(alloc: Global, error: &Error) -> Stop
+fn stop_of<S: AsStr>(alloc: Global, error: &Error, arguments: &[S]) -> Stop
     ensures { StopsFor (kind_of error.now) result }
 {
     if error.kind() == ErrorKind::OutOfMemory {
         return Stop::Memory;
     }
-    match error.to_string(alloc) {
+    match text_of(alloc, error, arguments) {
         Ok(text) if error.use_stderr() => Stop::Usage(text),
         Ok(text) => Stop::Shown(text),
         Err(_) => Stop::Memory,
     }
+}
+
+// The text of a fault repeats arguments. So it is taken from the same arguments with escapes in place of characters that do not print.
+fn text_of<S: AsStr>(alloc: Global, error: &Error, arguments: &[S]) -> Result<String, AllocError> {
+    let mut escaped = Vec::new(alloc);
+    for argument in arguments {
+        escaped.push(printable(alloc, argument.as_str())?)?;
+    }
+    let same = error_in(alloc, escaped.as_slice())?;
+    let told = same.as_ref().filter(|same| same.kind() == error.kind());
+    told.unwrap_or(error).to_string(alloc)
+}
+
+fn error_in<S: AsStr>(alloc: Global, arguments: &[S]) -> Result<Option<Error>, AllocError> {
+    Ok(program(alloc)?.try_get_matches_from(arguments).err())
+}
+
+// A text with escapes in place of characters that do not print. Quotes and backslashes stay.
+fn printable(alloc: Global, text: &str) -> Result<String, AllocError> {
+    let mut shown = String::new(alloc);
+    for c in text.chars() {
+        match c {
+            '\'' | '"' | '\\' => shown.push(c)?,
+            _ => write!(shown, "{}", c.escape_debug())?,
+        }
+    }
+    Ok(shown)
 }

@@ -185,8 +185,8 @@ Refusals:
     "\
 Documents:
   docs/README.md lists the pages by task: recording, scenarios, reports, each
-  refusal with its remedy. examples/ has scenarios for each toxic, a JSON
-  Schema of scenario files, and tools that read reports. Both are in the
+  refusal with its remedy. examples/ has scenarios for each toxic, and a JSON
+  Schema of scenario files; tools/ has tools that read reports. All are in the
   repository, in an unpacked release, and in /usr/share/doc/toxicap of the
   package.
 

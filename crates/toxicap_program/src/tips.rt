@@ -15,7 +15,7 @@ pub fn tip_of(alloc: Global, told: &str, has_capture: bool) -> Result<Option<Str
     if word.is_empty() || word.starts_with('-') {
         return Ok(None);
     }
-    let (is_scenario, word) = (word.ends_with(".json"), word.escape_debug());
+    let is_scenario = word.ends_with(".json");
     if has_capture && !is_scenario {
         return say!(alloc; "{word} is left over: a value with spaces needs quotes, and each of several scenarios a --scenario").map(
             Some,

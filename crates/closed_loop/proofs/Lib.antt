@@ -1,0 +1,9 @@
+pub mod Befores
+pub mod PartInstants
+pub mod Runs
+pub mod Marks
+pub mod Marking
+pub mod TableLines
+pub mod Raws
+pub mod MappedReads
+pub mod Staying

@@ -1,0 +1,9 @@
+pub mod Times
+pub mod Packets
+pub mod Scripts
+pub mod Recordings
+pub mod Openings
+pub mod Settled
+pub mod Laws
+pub mod Studies
+pub mod Faults

@@ -1,6 +1,6 @@
 # shellcheck shell=bash
 # What the scripts share. A script reads this file from the top folder,
-#     cd "$(dirname "$0")/.."
+#     cd "$(dirname "$0")/../.."
 #     . tests/lib.sh
 # has `program` (the program's path) and `work` (a folder of its own, removed when it ends) then, tells each comparison by `verdict`, and
 # ends with `close`. It may say anew what `clean_up` does. The program is the one that TOXICAP names, by a path, from the folder where the
@@ -8,7 +8,7 @@
 # With `--help` it prints what stands at its top.
 
 if [ "${1-}" = --help ]; then
-    sed -n '2,/^[^#]/s/^# \{0,1\}//p' "tests/${0##*/}"
+    (cd "$OLDPWD" && sed -n '2,/^[^#]/s/^# \{0,1\}//p' "$0")
     exit
 fi
 
@@ -59,6 +59,15 @@ can() {
     done
 }
 
+# python_with MODULE..: sets `python` to one that has these modules of it: python3, or else Debian's; if there is none, what wants them is skipped.
+python_with() {
+    local imports
+    imports=$(printf 'import %s\n' "${@:2}")
+    for python in python3 /usr/bin/python3; do ! "$python" -c "$imports" 2> /dev/null || return 0; done
+    skip "$1" "a python with ${*:2} is not here"
+    return 1
+}
+
 repository=$PWD
 # out_of_reach COMMAND..: runs a command where this repository is an empty folder.
 out_of_reach() {
@@ -73,6 +82,9 @@ try_out_of_reach() {
     # shellcheck disable=SC2317
     out_of_reach() { "$@"; }
 }
+
+# own_network WHAT: whether a network of its own can be had, as root or by user namespaces; where it can't, that is skipped.
+own_network() { unshare -n true 2> /dev/null || unshare -rn true 2> /dev/null || { skip "$1" "no network of its own can be had"; return 1; }; }
 
 # run INPUT ARGUMENT..: runs the program on a file; `status`, and the files `output` and `faults` of the folder `work`, are what came.
 run() {

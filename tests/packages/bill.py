@@ -41,6 +41,6 @@ for file in bill["files"]:
 named = {package["name"] for package in bill["packages"]}
 for line in (TOP / "crates.txt").read_text().splitlines():
     head, names = line.split(":") if ":" in line and not line.startswith("#") else ("library_example", "")
-    for name in names.split() if not head.startswith("library_example") else []:
+    for name in names.split() if not head.startswith(("library_example", "loop_example")) else []:
         if not (TOP / "crates" / name).is_dir() and name not in named:
             print("  there is no library", name)

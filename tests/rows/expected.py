@@ -2,7 +2,8 @@
 """The expected report and captures of a row, worked out apart from the program: docs/use/rules.md said again, byte by byte and without care
 for time. It was written from those rules alone and shares nothing with the program's text.
 
-    tests/rows/expected.py FOLDER   writes FOLDER/report and FOLDER/0000.hex, 0001.hex .. (or .sha256 for those above 4,000 bytes)
+    tests/rows/expected.py FOLDER   writes FOLDER/report and FOLDER/0000.hex, 0001.hex ..; of those above 4,000 bytes their sums, as
+                                    report.sha256 and 0000.sha256
     tests/rows/expected.py --stored FOLDER CAPTURE SCENARIO..
                                     writes FOLDER/0000.pcap, 0000.txt and on, what --out has to store of a capture under scenario files
     tests/rows/expected.py --lines --capture FILE ARGUMENT..
@@ -360,7 +361,8 @@ def main():
                 records.append(' '.join((out[at:at + 16].hex(' ', 4), f[:headers].hex(), f[headers:].hex())).strip())
                 at += 16 + n
             (row / f'{number:04}.hex').write_text('\n'.join(records) + '\n')
-    (row / 'report').write_text(reports)
+    if len(reports) > 4000: (row / 'report.sha256').write_text(hashlib.sha256(reports.encode()).hexdigest() + '\n')
+    else: (row / 'report').write_text(reports)
 
 
 if __name__ == '__main__': main()

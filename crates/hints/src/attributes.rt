@@ -4,7 +4,7 @@ use crate::shown::{quoted, shown};
 use serde_json::Value;
 use std::alloc::{AllocError, Global};
 
-// made: hints (by tests/made.py, of docs/toxics.tsv)
+// made: hints (by tests/tree/made.py, of docs/toxics.tsv)
 // The attributes of each type of toxics: what they count, and their least and greatest number.
 const ATTRIBUTES: [(&str, &str, &str, u64, u64); 10] = [
     ("latency", "latency", "milliseconds", 0, 1000000000),

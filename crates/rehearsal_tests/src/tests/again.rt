@@ -1,4 +1,4 @@
-//! Calls that are made again, with the same values. The script tests/growths.sh runs these tests with each growth of memory refused
+//! Calls that are made again, with the same values. The script tests/program/growths.sh runs these tests with each growth of memory refused
 //! in turn. One of two calls may want memory then, and the other answers in full.
 use super::rehearsed::rehearsed_by;
 use scenarios::{Hosts, Scenario, read_scenario};

@@ -1,4 +1,4 @@
-//! The sample `samples/shop.pcap` as a dump, made by `tests/made.py`.
+//! The sample `samples/shop.pcap` as a dump, made by `tests/tree/made.py`.
 
 pub const SHOP: &str =
     "d4c3b2a10200040000000000000000000000040001000000c0c2036b2f6e04004a0000004a000000be7476c46e3ccee45a6d41db08004500003c62dd40004006c3410a4d0001

@@ -11,7 +11,7 @@ import (
 	"testing"
 )
 
-// TestClosedLoop compares with what the function in Python gave: CASES names the folder that tests/closed_loop/laws.py has filled.
+// TestClosedLoop compares with what the function in Python gave: CASES names the folder that tests/clients/closed_loop/laws.py has filled.
 func TestClosedLoop(t *testing.T) {
 	cases, _ := filepath.Glob(filepath.Join(os.Getenv("CASES"), "*"))
 	if len(cases) == 0 {

@@ -7,6 +7,7 @@ import (
 	"net"
 	"net/netip"
 	"os"
+	"sort"
 	"sync"
 	"syscall"
 	"time"
@@ -42,23 +43,25 @@ type Conn struct {
 	read, write deadline
 	known       []instant // the deadlines that were set last, the last one first
 	tellLate    func()    // is called when a deadline has come
-	coming      []arrival // chunks, perhaps the first one in part, and the end
+	coming      []Step    // chunks, perhaps the first one in part, and the end
 	written     []byte
+	asked       []asked // how many bytes there were, and when
+	shutAt      time.Duration
 	hasRead     bool
 	gone, shut  bool
 	isReset     bool // whether the client has met the reset
+	isCut       bool // whether a toxic ended both directions
+	metCut      bool // whether a Write has met that end
 }
 
-// An arrival is what comes, and what waits for: how many bytes the client has written before, and whether it has closed its side.
-type arrival struct {
-	Event
-	need   int
-	closed bool
+type asked struct {
+	count int
+	at    time.Duration
 }
 
 const (
 	never    = time.Duration(math.MaxInt64)
-	openEnd  = "open" // the end of the arrivals of a line without an end
+	openEnd  = "open" // the end of the steps of a line without an end
 	unheard  = "192.0.2.1:49152"
 	unserved = "192.0.2.2:80" // addresses for documentation, if a line has none
 )
@@ -68,13 +71,14 @@ const (
 func NewConn(of Delivery) (*Conn, error) {
 	c := &Conn{addresses: [2]string{of.Client, of.Server}}
 	for _, chunk := range of.Down.Chunks {
-		c.coming = append(c.coming, arrival{Event: chunk})
+		c.coming = append(c.coming, Step{Delay: chunk.Time, Bytes: chunk.Bytes})
 	}
-	end := Event{Time: never, End: openEnd}
-	if of.Down.End != nil {
-		end = *of.Down.End
+	end := Step{Delay: never, End: openEnd}
+	if by := of.Down.End; by != nil {
+		end = Step{Delay: by.Time, End: by.End}
+		c.isCut = of.Up.End != nil && of.Up.End.Time == by.Time && of.Up.End.End == by.End
 	}
-	c.coming = append(c.coming, arrival{Event: end})
+	c.coming = append(c.coming, end)
 	if c.gone = end.End == "refused"; c.gone {
 		return c, c.failed("dial", os.NewSyscallError("connect", syscall.ECONNREFUSED))
 	}
@@ -123,7 +127,7 @@ func (c *Conn) Read(room []byte) (count int, err error) {
 		return 0, err
 	}
 	for next := c.next(); next.End == "" && count < len(room) && c.isAsked(next) && c.isDue(next, count > 0); next = c.next() {
-		c.reach(next.Time)
+		c.reach(c.due(next))
 		size := copy(room[count:], next.Bytes)
 		if next.Bytes = next.Bytes[size:]; len(next.Bytes) > 0 {
 			c.coming[0] = next
@@ -143,14 +147,41 @@ func (c *Conn) Read(room []byte) (count int, err error) {
 }
 
 // isDue tells whether a chunk is one that a Read gives, the first of it or one more.
-func (c *Conn) isDue(next arrival, more bool) bool {
-	return !more || c.Joins && next.Time < c.read.time()
+func (c *Conn) isDue(next Step, more bool) bool {
+	return !more || c.Joins && c.due(next) < c.read.time()
+}
+
+// due is when a step comes that waits for nothing more, but not before what stands before it.
+func (c *Conn) due(step Step) time.Duration {
+	since, away := time.Duration(0), step.Pause+step.Delay
+	if step.Need > 0 {
+		since = c.asked[sort.Search(len(c.asked), func(number int) bool { return c.asked[number].count >= step.Need })].at
+	}
+	if step.Closed && c.shutAt > since {
+		since = c.shutAt
+	}
+	if away > never-since {
+		return never
+	}
+	return since + away
+}
+
+// ended gives the server's end, if it has come: also if bytes before it are not read.
+func (c *Conn) ended() (end string) {
+	for number := len(c.coming) - 1; number >= 0; number-- {
+		step := c.coming[number]
+		if !c.isAsked(step) || c.due(step) > c.now {
+			return ""
+		}
+		end += step.End
+	}
+	return end
 }
 
 // next gives what comes next.
-func (c *Conn) next() arrival {
+func (c *Conn) next() Step {
 	if len(c.coming) == 0 {
-		return arrival{Event: Event{Time: never, End: openEnd}}
+		return Step{Delay: never, End: openEnd}
 	}
 	return c.coming[0]
 }
@@ -162,18 +193,17 @@ func (c *Conn) await() error {
 			return err
 		}
 	}
-	next := c.next()
 	switch {
 	case c.gone:
 		return c.failed("read", net.ErrClosed)
 	case c.fault != nil:
 		return c.failed("read", c.fault)
-	case c.read.time() <= c.now || c.read.time() < next.Time:
+	case c.read.time() <= c.now || c.read.time() < c.due(c.next()):
 		return c.late("read", c.read)
-	case next.End == openEnd:
+	case c.next().End == openEnd:
 		return ErrStillOpen
 	}
-	c.reach(next.Time)
+	c.reach(c.due(c.next()))
 	return nil
 }
 
@@ -191,11 +221,7 @@ func (c *Conn) Write(bytes []byte) (int, error) {
 	c.mutex.Lock()
 	defer c.mutex.Unlock()
 	c.endDial()
-	meets := false
-	if len(c.coming) > 0 {
-		end := c.coming[len(c.coming)-1]
-		meets = end.End == "reset" && end.Time <= c.now && c.isAsked(end)
-	}
+	ended := c.ended()
 	switch {
 	case c.gone:
 		return 0, c.failed("write", net.ErrClosed)
@@ -203,12 +229,13 @@ func (c *Conn) Write(bytes []byte) (int, error) {
 		return 0, c.failed("write", c.fault)
 	case c.write.time() <= c.now:
 		return 0, c.late("write", c.write)
-	case meets && !c.isReset:
+	case ended == "reset" && !c.isReset:
 		c.isReset = true
 		return 0, c.failed("write", os.NewSyscallError("write", syscall.ECONNRESET))
-	case meets || c.shut:
+	case ended == "reset" || c.shut || c.metCut:
 		return 0, c.failed("write", os.NewSyscallError("write", syscall.EPIPE))
 	}
+	c.metCut = ended == "fin" && c.isCut
 	count := c.take(bytes)
 	c.change()
 	if c.fault != nil {
@@ -228,6 +255,9 @@ func (c *Conn) end(what *bool) error {
 	defer c.mutex.Unlock()
 	if c.gone {
 		return c.failed("close", net.ErrClosed)
+	}
+	if !c.shut {
+		c.shutAt = c.now
 	}
 	*what = true
 	c.change()

@@ -22,10 +22,10 @@ var ErrNotDialled = errors.New("toxicap: no connection was dialled: have the cli
 //
 // The address of a recorded server opens the next connection of that server, and any other address the next connection of all.
 //
-// An answer waits until the client has written as many bytes as the recorded one had before it, and has closed its side if that one had. A client that
-// reads after a part of a request fails at once, with a *RequestError; one whose Read waits in a goroutine of its own has a second of real time to go
-// on. If it writes nothing for Limit, or up to a deadline, the Read fails. Record the client that is tested: after longer requests an answer may come
-// early, unless SameRequests is set.
+// An answer waits until the client has written as many bytes as the recorded one had before it, and has closed its side if that one had. It comes as
+// long after them as in the output. A client that reads after a part of a request fails at once, with a *RequestError; one whose Read waits in a
+// goroutine of its own has a second of real time to go on. If it writes nothing for Limit, or up to a deadline, the Read fails. Record the client that
+// is tested: after longer requests an answer may come early, unless SameRequests is set.
 //
 // The deadline of a context that dials is the first deadline of the connection, until the client sets one, or goes on after a read. A client that has a
 // timer in place of deadlines does not see the connection's clock: set Timeout for it.
@@ -83,7 +83,7 @@ func (d *Dialer) DialContext(ctx context.Context, network, address string) (net.
 	if err != nil {
 		return nil, err
 	}
-	c.Joins, c.coming = d.Joins, arrivalsOf(found.here.Down, found.there)
+	c.Joins, c.coming = d.Joins, comingOf(found.here.Down, found.there)
 	c.requests = requests{number: found.number, recorded: whole(found.there.Up), isSame: d.SameRequests, limit: d.Limit, tell: d.fail}
 	if d.Timeout > 0 {
 		c.timeout = deadline{true, d.Timeout}
@@ -169,17 +169,13 @@ func (d *Dialer) Close() error {
 	return ErrNotDialled
 }
 
-// arrivalsOf gives what comes on a line, and what each waits for; at an open end what would come next.
-func arrivalsOf(down Line, there Delivery) (coming []arrival) {
-	place := 0
-	steps, r := stepsOf(down, there), recordingOf(there)
-	for number, chunk := range down.Chunks {
-		coming, place = append(coming, arrival{chunk, steps[number].Need, steps[number].Closed}), place+len(chunk.Bytes)
-	}
+// comingOf gives what comes on a line, and what each waits for; at an open end what would come next.
+func comingOf(down Line, there Delivery) []Step {
+	steps := stepsOf(down, there)
 	if down.End != nil {
-		last := steps[len(steps)-1]
-		return append(coming, arrival{*down.End, last.Need, last.Closed})
+		return steps
 	}
-	next := r.step(r.answeredAt(place), Event{})
-	return append(coming, arrival{Event{Time: never, End: openEnd}, next.Need, next.Closed})
+	r := recordingOf(there)
+	next := r.step(r.answeredAt(len(whole(down))), Event{})
+	return append(steps, Step{Need: next.Need, Closed: next.Closed, Delay: never, End: openEnd})
 }

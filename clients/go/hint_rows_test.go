@@ -2,7 +2,7 @@
 
 package toxicap
 
-// Refusals of Rehearse against tests/hints/rows, which has what the program says.
+// Refusals of Rehearse against tests/clients/hints/rows, which has what the program says.
 
 import (
 	"encoding/hex"
@@ -26,7 +26,7 @@ func cell(text string) []byte {
 }
 
 func TestHints(t *testing.T) {
-	for _, row := range strings.Split(string(readFile(t, "../../tests/hints/rows")), "\n") {
+	for _, row := range strings.Split(string(readFile(t, "../../tests/clients/hints/rows")), "\n") {
 		cells := strings.Split(row, "\t")
 		if !strings.HasPrefix(row, "refused ") {
 			continue

@@ -15,7 +15,7 @@ import (
 var ErrNoClient = errors.New("no client came")
 
 // mostMore is how many bytes a client may send beyond those of the recorded one.
-const mostMore = 16 << 20
+const mostMore = 1 << 20
 
 // A Player serves the server's side of connections of an output capture to real clients on 127.0.0.1, chunk by chunk, and ends each as the capture
 // does: by a FIN, by a reset, or not at all. Each client that comes gets the next connection; after the last one others are refused, and so is each
@@ -28,7 +28,7 @@ const mostMore = 16 << 20
 //
 // For Limit in all the player waits for clients: to come, to send enough, to take bytes, to close after the last step. It does not run while an
 // answer waits for its time. When it has run out the player ends, and the error, an ErrLimit, tells what was missing: so a client that hangs is found,
-// if Limit is below its own timeout. A client that sends 16 MiB more than the recorded one ends the player too.
+// if Limit is below its own timeout. A client that sends 1 MiB more than the recorded one ends the player too.
 //
 // Each chunk is sent at once (TCP_NODELAY), and chunks that are due 2 ms or more apart stay 1 ms apart when the machine is late. The kernel still joins
 // chunks that the client is late to read, and gives a chunk that is longer than its room in pieces. A client that reads late may miss bytes before a

@@ -70,14 +70,15 @@ const (
 )
 
 // isAsked tells whether the client has done what something waits for.
-func (c *Conn) isAsked(next arrival) bool {
-	return len(c.written) >= next.need && (c.shut || !next.closed)
+func (c *Conn) isAsked(next Step) bool {
+	return len(c.written) >= next.Need && (c.shut || !next.Closed)
 }
 
 // take keeps what the client writes, and gives how many bytes of it are right.
 func (c *Conn) take(bytes []byte) int {
 	place := len(c.written)
 	c.written, c.isAhead = append(c.written, bytes...), c.isAhead || c.waiting > 0
+	c.asked = append(c.asked, asked{len(c.written), c.now})
 	if c.isSame {
 		c.fault = otherRequest(c.number, place, c.written, c.recorded)
 	}
@@ -99,8 +100,8 @@ func (c *Conn) endDial() {
 func (c *Conn) waitForClient() error {
 	c.endDial()
 	next, sent := c.next(), len(c.written)
-	isShort, most := c.answered < sent && sent < next.need, c.limit
-	if (isShort || sent >= next.need) && most > settled {
+	isShort, most := c.answered < sent && sent < next.Need, c.limit
+	if (isShort || sent >= next.Need) && most > settled {
 		most = settled
 	}
 	if away := c.read.time() - c.now; away < most {
@@ -113,15 +114,15 @@ func (c *Conn) waitForClient() error {
 	case c.isChanged(most):
 		return nil
 	case isShort:
-		err := &RequestError{c.number, sent, nil, few(c.recorded[:next.need], sent)}
+		err := &RequestError{c.number, sent, nil, few(c.recorded[:next.Need], sent)}
 		c.tell(err)
 		return c.failed("read", err)
 	case c.read.isSet:
 		return c.late("read", c.read)
-	case sent >= next.need:
+	case sent >= next.Need:
 		return ErrStillOpen
 	}
-	return c.failed("read", fmt.Errorf("connection %d: the client sent %d of %d bytes (%w %v)", c.number, sent, next.need, ErrLimit, c.limit))
+	return c.failed("read", fmt.Errorf("connection %d: the client sent %d of %d bytes (%w %v)", c.number, sent, next.Need, ErrLimit, c.limit))
 }
 
 // isChanged waits for a change, for some time and for some turns of other goroutines, which take longer on a busy machine; whether there was one.

@@ -230,7 +230,7 @@ func TestEffects(t *testing.T) {
 		if err := os.WriteFile(path, scenario, 0o666); err != nil {
 			t.Fatal(err)
 		}
-		printed, _ := exec.Command("../../examples/explain", "--capture", "../../samples/"+name, "--scenario", path, "--seed", "7").Output()
+		printed, _ := exec.Command("../../tools/explain", "--capture", "../../samples/"+name, "--scenario", path, "--seed", "7").Output()
 		expected := []string{}
 		for _, found := range toolLine.FindAllStringSubmatch(string(printed), -1) {
 			expected = append(expected, "scenario 0 "+found[1])

@@ -7,6 +7,7 @@ import (
 	"math"
 	"runtime"
 	"runtime/debug"
+	"strings"
 	"sync"
 )
 
@@ -15,11 +16,15 @@ type Seeds struct {
 	From, Below   uint64             // the first one, and that after the last; Below 0 stands for From+32
 	Workers       int                // how many goroutines call the function, which may be called at the same time if there is more than 1
 	RuntimeErrors bool               // whether a panic by a runtime error, such as an index out of range, counts as true; else it ends the search
+	Loose         bool               // whether scenarios may have unknown fields, and proxies that no connection meets; else that is ErrDoesNothing
 	Progress      func(tried uint64) // is called before each try, with how many were before it; by one goroutine at a time
 }
 
-// ErrNoSeeds is the error if there is no seed to try.
-var ErrNoSeeds = errors.New("there is no seed to try: Below is not above From")
+// The errors of a search that can find nothing.
+var (
+	ErrNoSeeds     = errors.New("there is no seed to try: Below is not above From")
+	ErrDoesNothing = errors.New("what is searched does nothing (Loose takes it)")
+)
 
 // Found is what a search found.
 type Found struct {
@@ -76,6 +81,9 @@ func LeastSeed(ctx context.Context, capture []byte, scenarios [][]byte, hosts []
 	if seeds.Below <= seeds.From {
 		return nil, ErrNoSeeds
 	}
+	if err := seeds.check(capture, scenarios, hosts); err != nil {
+		return nil, err
+	}
 	s := &seedSearch{Seeds: seeds, next: seeds.From, try: func(seed uint64) (*Found, error) {
 		outputs, err := Rehearse(capture, scenarios, hosts, seed)
 		if err != nil {
@@ -100,6 +108,22 @@ func LeastSeed(ctx context.Context, capture []byte, scenarios [][]byte, hosts []
 		s.err = ctx.Err()
 	}
 	return s.found, s.err
+}
+
+// check gives an error if scenarios have unknown fields or proxies that no connection meets, or the capture has no connection.
+func (s Seeds) check(capture []byte, scenarios [][]byte, hosts []byte) error {
+	if s.Loose {
+		return nil
+	}
+	outputs, err := Rehearse(capture, scenarios, hosts, s.From)
+	warnings := []string{}
+	for _, output := range outputs {
+		warnings = append(warnings, output.Warnings()...)
+	}
+	if err == nil && len(warnings) > 0 {
+		err = fmt.Errorf("%w: %s", ErrDoesNothing, strings.Join(warnings, "; "))
+	}
+	return err
 }
 
 // someSeeds is how many seeds there are if Seeds does not say it.

@@ -2,7 +2,7 @@
 
 package toxicap
 
-// Searches against rows that were worked out by hand (tests/search.json) and known parsers.
+// Searches against rows that were worked out by hand (tests/clients/search.json) and known parsers.
 
 import (
 	"bytes"
@@ -30,7 +30,7 @@ func readFile(t *testing.T, name string) []byte {
 	return text
 }
 
-// row is one of tests/search.json.
+// row is one of tests/clients/search.json.
 type row struct {
 	Row, Sample, Hosts, Finds string
 	Below                     uint64
@@ -41,7 +41,7 @@ type row struct {
 
 func TestRows(t *testing.T) {
 	var rows []row
-	if err := json.Unmarshal(readFile(t, "../../tests/search.json"), &rows); err != nil {
+	if err := json.Unmarshal(readFile(t, "../../tests/clients/search.json"), &rows); err != nil {
 		t.Fatal(err)
 	}
 	for _, row := range rows {
@@ -66,7 +66,7 @@ func tryRow(t *testing.T, row row) {
 		texts[i] = scenario
 	}
 	for workers := 0; workers < 4; workers++ {
-		seeds := Seeds{Below: row.Below, Workers: workers}
+		seeds := Seeds{Below: row.Below, Workers: workers, Loose: true}
 		found, err := LeastSeed(context.Background(), capture, texts, []byte(row.Hosts), finds, seeds)
 		if err != nil || (found != nil) != (row.Seed != nil) || found != nil && found.Seed != *row.Seed {
 			t.Error("least", found, err)
@@ -83,6 +83,7 @@ func tryRow(t *testing.T, row row) {
 }
 
 func TestWrongUses(t *testing.T) {
+	const doesNothing = `what is searched does nothing (Loose takes it): scenario %d proxy 0 "web" (10.77.0.9:80): no connection meets it; servers of the capture: 10.77.0.2:80`
 	ctx, capture := context.Background(), readFile(t, "../../samples/http-get.pcap")
 	answer := func(answered bool) func([]Output) bool { return func([]Output) bool { return answered } }
 	_, noSeed := LeastSeed(ctx, capture, [][]byte{[]byte("[]")}, nil, answer(true), Seeds{From: 7, Below: 7})
@@ -90,6 +91,9 @@ func TestWrongUses(t *testing.T) {
 	_, shrinkRefused := Shrink(ctx, capture, []byte("["), nil, answer(true), Seeds{})
 	_, passes := Shrink(ctx, capture, []byte("[]"), nil, answer(false), Seeds{Below: 3})
 	_, untouched := Shrink(ctx, capture, []byte("[]"), nil, answer(true), Seeds{Below: 3})
+	idle := Scenario(Proxy{Name: "web", Upstream: "10.77.0.9:80"})
+	_, unmet := LeastSeed(ctx, capture, [][]byte{[]byte("[]"), idle}, nil, answer(true), Seeds{})
+	_, shrinkUnmet := Shrink(ctx, capture, idle, nil, answer(true), Seeds{})
 	for _, use := range []struct {
 		err      error
 		is       error
@@ -101,6 +105,8 @@ func TestWrongUses(t *testing.T) {
 		{passes, ErrPasses, "the scenario does not fail under these seeds: there is nothing to shrink"},
 		{untouched, ErrFailsUntouched,
 			"the scenario [], without toxics, fails too: there is nothing to shrink; make fails false for what was recorded"},
+		{unmet, ErrDoesNothing, fmt.Sprintf(doesNothing, 1)},
+		{shrinkUnmet, ErrDoesNothing, fmt.Sprintf(doesNothing, 0)},
 	} {
 		if !errors.Is(use.err, use.is) || use.err.Error() != use.expected {
 			t.Errorf("%v in place of %s", use.err, use.expected)
@@ -180,7 +186,7 @@ func TestPanics(t *testing.T) {
 	for number := 1; number < 30; number++ {
 		proxies = append(proxies, Proxy{Upstream: fmt.Sprintf("10.77.0.9:%d", number), Toxics: []Toxic{{Type: "timeout"}}})
 	}
-	found, err := LeastSeed(ctx, capture, [][]byte{Scenario(proxies...)}, nil, func([]Output) bool { panic("broken") }, Seeds{Below: 9})
+	found, err := LeastSeed(ctx, capture, [][]byte{Scenario(proxies...)}, nil, func([]Output) bool { panic("broken") }, Seeds{Below: 9, Loose: true})
 	if err != nil || found == nil || !strings.HasPrefix(found.String(), "seed 0: panic: broken\n") || !strings.Contains(found.String(), "TestPanics") {
 		t.Error(found, err)
 	}
@@ -192,7 +198,7 @@ func TestPanics(t *testing.T) {
 		}
 		panicked++
 		panic("cut")
-	}, Seeds{})
+	}, Seeds{Loose: true})
 	expected := `[{"name":"10.77.0.2:80","toxics":[{"attributes":{"bytes":0},"type":"limit_data"}],"upstream":"10.77.0.2:80"}]`
 	if err != nil || string(found.Scenario) != expected || found.Seed != 0 || found.Panic == nil {
 		t.Error(found, err)

@@ -31,6 +31,7 @@ func Shrink(ctx context.Context, capture, scenario, hosts []byte, fails func([]O
 	} else if s.found == nil {
 		return nil, ErrPasses
 	}
+	s.seeds.Loose = true // it was checked
 	s.shrink()
 	if s.err != nil && ctx.Err() == nil {
 		return nil, s.err

@@ -1,6 +1,6 @@
 package toxicap
 
-// made: tables (by tests/made.py, of docs/refusals.tsv and docs/toxics.tsv)
+// made: tables (by tests/tree/made.py, of docs/refusals.tsv and docs/toxics.tsv)
 
 // The kinds of refusals.
 const (

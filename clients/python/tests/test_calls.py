@@ -104,14 +104,14 @@ class Builders(unittest.TestCase):
 
 class Data(unittest.TestCase):
     def test_reports(self):
-        """What examples/report tells in JSON, of outputs with each kind of an end, a VLAN, and a proxy or none."""
+        """What tools/report tells in JSON, of outputs with each kind of an end, a VLAN, and a proxy or none."""
         cut = proxy("10.77.0.3:6379", toxic("limit_data", bytes=100))
         scenarios = [[], [proxy("10.77.0.2:80", enabled=False)], [cut, proxy("10.77.0.2:80", toxic("reset_peer", timeout=2))]]
         vlan, torn = tagged(SHOP.read_bytes()), SHOP.read_bytes()[:9000]
         outputs = [*rehearse(SHOP, scenarios), *rehearse(vlan, scenarios[2]), *rehearse(torn, b"[]")]
         ends = set()
         for output in outputs:
-            told = subprocess.run([TOP / "examples/report"], input=output.report, stdout=subprocess.PIPE, check=True).stdout
+            told = subprocess.run([TOP / "tools/report"], input=output.report, stdout=subprocess.PIPE, check=True).stdout
             scenario, connections, *lines = [json.loads(line) for line in told.splitlines()]
             parsed = output.parsed
             self.assertEqual({**parsed.counts._asdict(), "scenario": parsed.scenario, "line": "connections"}, {**scenario, **connections})

@@ -52,7 +52,7 @@ class Findings(unittest.TestCase):
         )
 
     def test_toxics_without_effect(self):
-        """Warnings, in the words of examples/explain; none for toxics of a proxy that is not met."""
+        """Warnings, in the words of tools/explain; none for toxics of a proxy that is not met."""
         [silent] = rehearse(HTTP, [web({"type": "timeout"})])
         for capture, expected, *toxics in (
             (HTTP, ["its toxicity is 0"], {"type": "timeout", "toxicity": 0}),
@@ -68,7 +68,7 @@ class Findings(unittest.TestCase):
             self.assertEqual([finding.is_warning for finding in found], [True] * len(expected))
             path.with_suffix(".pcap").write_bytes(capture if isinstance(capture, bytes) else capture.capture)
             path.with_suffix(".json").write_text(json.dumps(scenario))
-            words = [TOP / "examples/explain", "--capture", path.with_suffix(".pcap"), "--seed", "7"]
+            words = [TOP / "tools/explain", "--capture", path.with_suffix(".pcap"), "--seed", "7"]
             told = subprocess.run([*words, *["--scenario", path.with_suffix(".json")] * 2], stdout=subprocess.PIPE, text=True).stdout
             lines = [line.split('": ')[1] for line in told.splitlines() if "effect on 0" in line]
             self.assertEqual(lines[len(lines) // 2 :], [finding.text for finding in found])

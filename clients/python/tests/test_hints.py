@@ -1,4 +1,4 @@
-"""What helps after each refusal, against tests/hints/rows: in calls of the library, and as the program says it on a terminal."""
+"""What helps after each refusal, against tests/clients/hints/rows: in calls of the library, and as the program says it on a terminal."""
 import os
 import pathlib
 import pickle
@@ -21,7 +21,7 @@ def cell_bytes(cell):
 
 def rows():
     """Of each row the line, the hint, what the program says, and the inputs: capture, scenarios and hosts."""
-    lines = [line for line in (TOP / "tests/hints/rows").read_text(encoding="utf-8").split("\n")[:-1] if not line.startswith("#")]
+    lines = [line for line in (TOP / "tests/clients/hints/rows").read_text(encoding="utf-8").split("\n")[:-1] if not line.startswith("#")]
     for row in lines[1:]:
         line, hint, said, capture, hosts, *scenarios = row.split("\t")
         source = (TOP / "samples" / capture).read_bytes() if capture.endswith(".pcap") else bytes.fromhex(capture)

@@ -1,4 +1,4 @@
-"""toxicap.search against rows that were worked out by hand (tests/search.json) and known parsers."""
+"""toxicap.search against rows that were worked out by hand (tests/clients/search.json) and known parsers."""
 import importlib.util
 import json
 import os
@@ -17,7 +17,7 @@ from toxicap.search import feed, feed_prefixes, least_seed, shrink
 
 TOP = pathlib.Path(__file__).resolve().parents[3]
 
-ROWS = json.loads((TOP / "tests/search.json").read_text())
+ROWS = json.loads((TOP / "tests/clients/search.json").read_text())
 NO_RATE = b'[{"name":"web","upstream":"10.77.0.2:80","toxics":[{"type":"bandwidth","attributes":{"rate":0}}]}]'
 GET = (TOP / "samples/http-get.pcap").read_bytes()
 

@@ -13,6 +13,7 @@
     effects(capture, scenarios)   how many connections meet each proxy and draw each toxic, and on how many it has an effect
     explain(capture, scenarios)   why a rehearsal does nothing: unknown fields, proxies that are not met, toxics without effect, captures without a
                                   connection
+    record(path)                  records what both ends of connections do in its `with`, where a network of its own is allowed
     proxy(upstream, toxic(..))    a scenario as Python makes it, which is a list of these
     sample(name)                  a capture that comes with toxicap
 
@@ -37,10 +38,11 @@ from .closed_loop import closed_loop
 
 if TYPE_CHECKING:
     from ._streams import Loop, run, streams
+    from ._record import record
     from .player import Player
 else:
     # what takes longer to load than all the rest, and is loaded when it is asked for
-    LATER = {"Loop": "_streams", "run": "_streams", "streams": "_streams", "Player": "player"}
+    LATER = {"Loop": "_streams", "run": "_streams", "streams": "_streams", "Player": "player", "record": "_record"}
 
     def __getattr__(name: str) -> Any:
         if name not in LATER:
@@ -80,6 +82,7 @@ __all__ = [
     "lines",
     "parse_report",
     "proxy",
+    "record",
     "rehearse",
     "reports",
     "run",

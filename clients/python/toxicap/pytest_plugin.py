@@ -4,7 +4,7 @@
         output = rehearse("shop.pcap", "slow.json", hosts=b"redis=10.77.0.3", golden="slow")
 
 rehearses a capture under a scenario and compares what comes with slow.pcap and slow.txt. `pytest --toxicap-update` writes them, and
-`pytest --toxicap-stale` finds those that no test compared with."""
+`pytest --toxicap-stale` finds those that no test compared with. The fixture `record` records a capture in a first run."""
 from __future__ import annotations
 
 import contextlib
@@ -163,6 +163,23 @@ def rehearse(request: pytest.FixtureRequest) -> Rehearsals:
     """Rehearses a capture under a scenario, and compares what comes with golden files: see toxicap.pytest_plugin.Rehearsals."""
     comparisons: Any = request.config.pluginmanager.get_plugin("toxicap_comparisons")
     return Rehearsals(request.path.parent, comparisons, request.config.getoption("toxicap_update"))
+
+
+@pytest.fixture(scope="module")
+def record(request: pytest.FixtureRequest) -> Callable[..., pathlib.Path]:
+    """Gives record(path, live, probes=True): the path of a capture. If it is not there, it is what toxicap.record records while live() runs. A relative
+    path counts from the folder of the test's file."""
+
+    def recorded(path: Union[str, os.PathLike[str]], live: Callable[[], object], probes: bool = True) -> pathlib.Path:
+        capture = pathlib.Path(os.path.normpath(request.path.parent / path))
+        if not capture.exists():
+            from . import record as recording
+
+            with recording(capture, probes):
+                live()
+        return capture
+
+    return recorded
 
 
 @pytest.fixture(scope="module", params=[False, True], ids=["chunks", "joined"])

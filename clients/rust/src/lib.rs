@@ -45,37 +45,57 @@
 //! ```
 //!
 //! A proxy that no connection meets does nothing, and neither does a misspelt field: look at `proxy` and `max` of the parsed report.
-//! For a search write `(0..10_000).find(|seed| fails(*seed))`, and rehearse in `fails`.
+//! A `Search` finds the least seed and the smallest scenario under which a test fails, and a `Player` serves an output to real clients.
 //!
 //! Pages, scenarios and samples are in `share/toxicap` of the crate's folder, first `README.md`; copy a capture to your own tests, and name it there.
 //! The static library is in the crate, for Linux on x86-64-v2. Without the feature `native` the crate only reads outputs, on any system.
 #![deny(missing_docs)]
 
-mod arrivals;
 mod delivered;
 mod difference;
 #[cfg(feature = "native")]
 mod effects;
 mod events;
+mod exchange;
+#[cfg(feature = "native")]
+mod json;
 #[cfg(feature = "native")]
 mod lines;
+#[cfg(target_os = "linux")]
+mod player;
+#[cfg(target_os = "linux")]
+mod playing;
 #[cfg(feature = "native")]
 mod refusal;
 #[cfg(feature = "native")]
 mod rehearse;
 mod report;
+#[cfg(feature = "native")]
+mod search;
+#[cfg(target_os = "linux")]
+mod serving;
+#[cfg(feature = "native")]
+mod shrink;
 mod sockets;
+mod steps;
 
 pub use delivered::{Delivered, Direction, End, Event, Line, NotOutput, What};
 pub use difference::difference;
-pub use events::{delivered, events};
 #[cfg(feature = "native")]
 pub use effects::effects;
+pub use events::{delivered, events};
 #[cfg(feature = "native")]
 pub use lines::lines;
+#[cfg(target_os = "linux")]
+pub use player::Player;
 #[cfg(feature = "native")]
 pub use refusal::{Kind, Refusal};
 #[cfg(feature = "native")]
 pub use rehearse::{rehearse, reports, Output};
 pub use report::{Connection, Flow, Report};
+#[cfg(feature = "native")]
+pub use search::{Found, Search, SearchError, Verdict};
+#[cfg(target_os = "linux")]
+pub use serving::Serving;
 pub use sockets::Socket;
+pub use steps::{steps, Step};

@@ -1,7 +1,7 @@
 //! What toxicap refuses.
 use std::{error, fmt, io};
 
-// made: kinds (by tests/made.py, of docs/refusals.tsv)
+// made: kinds (by tests/tree/made.py, of docs/refusals.tsv)
 /// The kinds of refusals, by their numbers; `docs/use/refusals.md` says what to do.
 #[derive(Clone, Copy, Debug, PartialEq, Eq, Hash)]
 #[non_exhaustive]

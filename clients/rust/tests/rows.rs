@@ -1,4 +1,4 @@
-//! Refusals of the calls against tests/hints/rows, which has what the program says, from the root of the repository.
+//! Refusals of the calls against tests/clients/hints/rows, which has what the program says, from the root of the repository.
 use std::{fs, str};
 use toxicap::{rehearse, reports};
 
@@ -25,7 +25,7 @@ fn cell(text: &str) -> Vec<u8> {
 
 #[test]
 fn calls() {
-    let rows = include_str!("../../../tests/hints/rows").lines();
+    let rows = include_str!("../../../tests/clients/hints/rows").lines();
     let rows: Vec<&str> = rows.filter(|row| row.starts_with("refused ")).collect();
     assert!(rows.len() > 80);
     for row in rows {

@@ -1,12 +1,12 @@
 //! Sockets over what the library gives, from the root of the repository, and over lines made by hand.
-use std::fs;
 use std::io::{self, ErrorKind, Read, Write};
 use std::net::Shutdown;
 use std::time::Duration;
-use toxicap::{delivered, rehearse, Delivered, End, Line, Socket};
+use toxicap::{Delivered, End, Line, Socket};
 
 const SECOND: Duration = Duration::from_secs(1);
 
+#[cfg(feature = "native")]
 /// What a socket gives, read in pieces of these sizes: bytes, each with the clock's time, and the error that it ends with.
 fn read_all(mut socket: Socket, mut size: usize) -> (Vec<(Duration, u8)>, Option<ErrorKind>) {
     let mut found = Vec::new();
@@ -21,8 +21,11 @@ fn read_all(mut socket: Socket, mut size: usize) -> (Vec<(Duration, u8)>, Option
     }
 }
 
+#[cfg(feature = "native")]
 #[test]
 fn reads_of_any_size() {
+    use std::fs;
+    use toxicap::{delivered, rehearse};
     for (capture, scenario) in [
         ("samples/shop.pcap", "examples/mobile-line.json"),
         ("samples/shop.pcap", "examples/reset_peer.json"),
@@ -38,14 +41,20 @@ fn reads_of_any_size() {
             let came = lines.down.chunks.iter();
             let expected: Vec<_> = came.flat_map(|(time, bytes)| bytes.iter().map(|byte| (*time, *byte))).collect();
             for size in 0..5 {
+                // one that asks at the recorded times gets answers at those of the output, if it reads by then
                 let mut asked = Socket::client(lines, recorded).unwrap().same_requests();
-                for (_, bytes) in &recorded.up.chunks {
-                    asked.write_all(bytes).unwrap();
+                let mut has_failed = false; // by a reset that came before
+                for (time, bytes) in &recorded.up.chunks {
+                    asked.advance(*time - asked.now());
+                    has_failed |= asked.write_all(bytes).is_err();
                 }
+                asked.advance(recorded.up.end.map_or(Duration::ZERO, |(time, _)| time - asked.now()));
                 asked.shutdown(Shutdown::Write).unwrap();
-                for socket in [Socket::reader(&lines.down).unwrap(), asked] {
+                for (socket, has_failed) in [(Socket::reader(&lines.down).unwrap(), false), (asked, has_failed)] {
+                    let begun = socket.now();
+                    let expected: Vec<_> = expected.iter().map(|(time, byte)| (begun.max(*time), *byte)).collect();
                     let (found, error) = read_all(socket, size);
-                    assert_eq!((&found, error.is_some()), (&expected, fails));
+                    assert_eq!((found, error.is_some()), (expected, fails && !has_failed));
                 }
             }
         }
@@ -69,84 +78,91 @@ fn both(up: Line, down: Line) -> Delivered {
 /// What a read gives as text, or why it fails.
 fn text(socket: &mut Socket) -> Result<String, String> {
     let mut room = [0; 40];
-    socket.read(&mut room).map(|len| String::from_utf8_lossy(&room[..len]).into()).map_err(|error| match error.kind() {
-        ErrorKind::Other => error.to_string(),
-        kind => format!("{kind:?}"),
-    })
+    socket.read(&mut room).map(|len| String::from_utf8_lossy(&room[..len]).into()).map_err(|error| told(&error).to_string())
 }
 
-const FOREVER: &str = "nothing comes any more, and a client without a read timeout waits forever: set one";
+/// An error by the word of tests/clients/sockets/rows.
+fn told(error: &io::Error) -> &'static str {
+    match (error.kind(), &*error.to_string()) {
+        (ErrorKind::WouldBlock, _) => "timeout",
+        (ErrorKind::ConnectionReset, _) => "reset",
+        (ErrorKind::BrokenPipe, _) => "broken",
+        (ErrorKind::Other, why) if why.starts_with("other bytes") => "other",
+        (ErrorKind::Other, why) if why.starts_with("a read after ") => "unasked",
+        (ErrorKind::Other, why) if why.starts_with("nothing comes") || why.starts_with("a read while this side is open") => "forever",
+        _ => panic!("{error}"),
+    }
+}
+
+/// The lines of a row, or of what stands for them.
+fn lines(words: &[Vec<&str>], names: [&str; 2]) -> Line {
+    let name = names.into_iter().find(|name| words.iter().any(|each| each[0] == *name));
+    let mut line = Line::default();
+    for each in words.iter().filter(|each| Some(each[0]) == name) {
+        let time = Duration::from_millis(each[1].parse().unwrap());
+        match each[2] {
+            "fin" => line.end = Some((time, End::Fin)),
+            "reset" => line.end = Some((time, End::Reset)),
+            text => line.chunks.push((time, text.as_bytes().to_vec())),
+        }
+    }
+    line
+}
 
 #[test]
-fn a_socket_at_its_times() -> io::Result<()> {
-    let mut socket = Socket::reader(&line(&[(2, "late")], Some((9, End::Reset))))?;
-    for invalid in [socket.set_read_timeout(Some(Duration::ZERO)), socket.set_write_timeout(Some(Duration::ZERO))] {
+fn rows() {
+    let rows: Vec<_> = include_str!("../../../tests/clients/sockets/rows").split("\n== ").skip(1).collect();
+    assert!(rows.len() > 10);
+    for row in rows {
+        let words: Vec<Vec<&str>> = row.lines().skip(1).filter(|line| !line.is_empty()).map(|line| line.split(' ').collect()).collect();
+        let output = both(lines(&words, ["up", "recorded-up"]), lines(&words, ["down"; 2]));
+        let recorded = both(lines(&words, ["recorded-up"; 2]), lines(&words, ["recorded-down", "down"]));
+        let mut socket = Socket::client(&output, &recorded).unwrap();
+        for call in &words {
+            let time = call.last().and_then(|time| time.parse().ok()).map(Duration::from_millis);
+            match call[0] {
+                "timeout" => socket.set_read_timeout(time).unwrap(),
+                "advance" => socket.advance(time.unwrap()),
+                "shut" => socket.shutdown(Shutdown::Write).unwrap(),
+                "same" => socket = socket.same_requests(),
+                "write" => assert_eq!(socket.write_all(call[1].as_bytes()).map_or_else(|error| told(&error), |()| "taken"), call[2], "{row}"),
+                "read" => {
+                    let found = text(&mut socket).unwrap_or_else(|told| told);
+                    assert_eq!((if found.is_empty() { "fin" } else { &found }, socket.now()), (call[1], time.unwrap()), "{row}");
+                }
+                _ => {}
+            }
+        }
+    }
+}
+
+#[test]
+fn wrong_uses() -> io::Result<()> {
+    let recorded = both(line(&[(0, "GET a"), (4, "GET b")], None), line(&[(3, "A"), (6, "B")], None));
+    let late = both(recorded.up.clone(), line(&[(13, "A"), (16, "B")], None));
+    let client = Socket::client(&late, &recorded)?;
+    for invalid in [client.set_read_timeout(Some(Duration::ZERO)), client.set_write_timeout(Some(Duration::ZERO))] {
         assert_eq!(invalid.unwrap_err().kind(), ErrorKind::InvalidInput);
     }
-    socket.set_write_timeout(Some(SECOND))?;
-    socket.set_read_timeout(Some(3 * SECOND / 2))?;
-    socket.write_all(b"request")?;
-    assert_eq!((text(&mut socket), socket.now()), (Err("WouldBlock".into()), 3 * SECOND / 2));
-    assert_eq!((text(&mut socket), socket.now()), (Ok("late".into()), 2 * SECOND));
-    socket.set_read_timeout(None)?;
-    assert_eq!((text(&mut socket), socket.now()), (Err("ConnectionReset".into()), 9 * SECOND));
-    assert_eq!(socket.write(b"more").unwrap_err().kind(), ErrorKind::BrokenPipe);
-    assert_eq!((text(&mut socket), &*socket.sent()), (Ok("".into()), &b"request"[..]));
-
-    assert_eq!(text(&mut Socket::reader(&Line::default())?), Err(FOREVER.into()));
     let refused = line(&[], Some((0, End::Refused)));
     assert_eq!(Socket::reader(&refused).unwrap_err().kind(), ErrorKind::ConnectionRefused);
-    Ok(())
-}
-
-#[test]
-fn a_write_after_a_reset_that_is_not_read() -> io::Result<()> {
-    let mut socket = Socket::reader(&line(&[(2, "late")], Some((9, End::Reset))))?;
-    socket.advance(8 * SECOND);
-    socket.write_all(b"taken")?;
-    socket.advance(SECOND);
-    assert_eq!(socket.write(b"lost").unwrap_err().kind(), ErrorKind::ConnectionReset);
-    assert_eq!(socket.write(b"lost").unwrap_err().kind(), ErrorKind::BrokenPipe);
-    assert_eq!((text(&mut socket), text(&mut socket)), (Ok("late".into()), Ok("".into())));
-    Ok(())
-}
-
-#[test]
-fn answers_wait_for_requests() -> io::Result<()> {
-    let asked = line(&[(0, "GET a"), (4, "GET b")], Some((7, End::Fin)));
-    let recorded = both(asked.clone(), line(&[(3, "A"), (6, "B")], Some((8, End::Fin))));
-    let late = both(asked, line(&[(13, "A"), (16, "B")], Some((18, End::Fin))));
-    let early = |sent, recorded| Err(format!("a read after {sent} bytes were sent: the recorded side had sent {recorded} before what comes next"));
-    let mut client = Socket::client(&late, &recorded)?;
-    assert_eq!(text(&mut client), early(0, 5));
-    client.set_read_timeout(Some(SECOND))?;
-    assert_eq!((text(&mut client), client.now()), (early(0, 5), Duration::ZERO));
-    client.set_read_timeout(None)?;
-    client.write_all(b"DEL ")?;
-    assert_eq!(text(&mut client), early(4, 5));
-    client.try_clone()?.write_all(b"a")?;
-    assert_eq!((text(&mut client), client.now()), (Ok("A".into()), 13 * SECOND));
-    assert_eq!(text(&mut client), early(5, 10));
-    client.write_all(b"GET b")?;
-    assert_eq!((text(&mut client), client.now()), (Ok("B".into()), 16 * SECOND));
-    assert_eq!(text(&mut client), Err("a read while this side is open: the recorded side had closed before what comes next".into()));
-    client.shutdown(Shutdown::Write)?;
-    assert_eq!((text(&mut client), client.now()), (Ok("".into()), 18 * SECOND));
-    assert_eq!(client.write(b"more").unwrap_err().kind(), ErrorKind::BrokenPipe);
-
-    let mut client = Socket::client(&late, &recorded)?.same_requests();
-    let other = client.write(b"GEL a").unwrap_err();
-    assert_eq!(other.to_string(), "other bytes are sent than the recorded ones, from byte 2 on");
-    client.write_all(b"GET aGET b")?;
-    assert!(client.write(b"GET c").is_err());
-
-    let mut server = Socket::server(&late, &recorded)?;
-    assert_eq!((text(&mut server), text(&mut server)), (Ok("GET a".into()), early(0, 1)));
-    server.write_all(b"A")?;
-    assert_eq!((text(&mut server), server.now()), (Ok("GET b".into()), 4 * SECOND));
     for (output, recorded) in [(&recorded, &late), (&late, &both(Line::default(), line(&[(3, "C")], None)))] {
         assert_eq!(Socket::client(output, recorded).unwrap_err().kind(), ErrorKind::InvalidInput);
     }
+    let mut client = client.same_requests();
+    client.try_clone()?.write_all(b"GE")?;
+    assert_eq!(client.write(b"L a").unwrap_err().to_string(), "other bytes are sent than the recorded ones, from byte 2 on");
+    Ok(())
+}
+
+#[test]
+fn a_server() -> io::Result<()> {
+    let recorded = both(line(&[(0, "GET a"), (4, "GET b")], None), line(&[(3, "A"), (6, "B")], None));
+    let mut server = Socket::server(&recorded, &recorded)?;
+    assert_eq!((text(&mut server), text(&mut server)), (Ok("GET a".into()), Err("unasked".into())));
+    server.advance(9 * SECOND);
+    server.write_all(b"A")?;
+    assert_eq!((text(&mut server), server.now()), (Ok("GET b".into()), 10 * SECOND));
     Ok(())
 }
 
@@ -166,6 +182,7 @@ fn reads_that_join_chunks() -> io::Result<()> {
     client.write_all(b"1")?;
     assert_eq!(text(&mut client), Ok("a".into()));
     client.write_all(b"2")?;
+    client.advance(SECOND);
     client.shutdown(Shutdown::Read)?;
     assert_eq!((text(&mut client), text(&mut client)), (Ok("b".into()), Ok("".into())));
     Ok(())

@@ -170,7 +170,7 @@ func TestAFlood(t *testing.T) {
 				break
 			}
 		}
-		if count := len(p.Received()[0]); count > 20<<20 {
+		if count := len(p.Received()[0]); count > 2<<20 {
 			t.Errorf("%d bytes were taken", count)
 		}
 	}, " bytes more than the recorded one")

@@ -65,7 +65,7 @@ type requests struct {
 
 const (
 	settled    = time.Second // a client that reads in a goroutine of its own has this long to go on with a request, or to close its side
-	fairRounds = 20          // a client that reads after a part of a request has gone on in so many turns of other goroutines, if it will
+	fairRounds = 20          // a client that reads after a part of a request has gone on within this number of turns of other goroutines, if it will
 	fairRound  = 100 * time.Microsecond
 )
 

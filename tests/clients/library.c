@@ -6,7 +6,7 @@
      lines          prints the delivered lines as `tests/rows/expected.py --lines` does
      again COUNT    COUNT calls, none of which may leave memory; from a thousand on the process may not grow after the tenth part of them
      threads COUNT  eight threads, each with 256 KB of stack, a seed of its own and COUNT calls
-     growths        each growth of memory is refused in turn, also with all later ones, and also with room for want of memory alone, or too little
+     growths        each growth of memory is refused in turn, also with all later ones, and also with room only for the line of out of memory, or too little
      edges          a scenario's length past the end, a last host without a line feed, inputs that are null, a capture that is too long
    It is linked with --wrap for malloc, realloc, calloc and free, so that its growths are counted (of a static library, the library's too). */
 #define _GNU_SOURCE

@@ -157,7 +157,7 @@ done
 mkdir "$work/disk"
 clean_up() { umount "$work/disk" 2> /dev/null || true; }
 
-# on_disk PAGES OLD WORKERS SCENARIOS: a run on a disk of this size with so many old files; what it leaves stands in `left.WORKERS`.
+# on_disk PAGES OLD WORKERS SCENARIOS: a run on a disk of PAGES pages with OLD old files; what it leaves stands in `left.WORKERS`.
 on_disk() {
     local name
     mount -t tmpfs -o "size=$((4 * $1))k" tmpfs "$work/disk"

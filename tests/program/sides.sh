@@ -124,7 +124,7 @@ line() {
 # counted KIND: how many writes the last run made, or phases in which threads were made.
 counted() { if [ "$1" = phases ]; then phases | wc -w; else count "$1"; fi; }
 
-# runs HOW WORKERS KIND NUMBER: what is at fault with runs over the capture. Of the one that prints or stores by so many workers, calls are counted.
+# runs HOW WORKERS KIND NUMBER: what is at fault with runs over the capture. Of the one that prints or stores (HOW) by WORKERS workers, calls are counted.
 runs() {
     local plan workers options words how made
     for plan in "1" "2 --capture $work/capture" "5 --capture $work/capture --cut 64" "16 --cut 3"; do

@@ -266,11 +266,11 @@ mkdir right
 cp right/0000.pcap wrong.pcap
 printf X | dd of=wrong.pcap bs=1 seek=315 conv=notrunc status=none # in record 4, the first payload
 cat wrong.pcap <(tail -c +25 "$http") > both.pcap
-# sums WHAT COUNT REMEDY CAPTURE: of so many of a capture's segments, as `1 of 8`, the sums are told to be wrong.
+# sums WHAT COUNT REMEDY CAPTURE: COUNT of a capture's segments, as `1 of 8`, are told to have wrong sums.
 sums() {
     warns "$1" "$2 segments have wrong TCP checksums: they are rehearsed all the same, and outputs have right ones, but a receiver would have dropped them; $3" "$4"
 }
-# helped WHAT COUNT CAPTURE: after what the line says to do, so many segments are left, and no sum is wrong.
+# helped WHAT COUNT CAPTURE: after what the line says to do, COUNT segments are left, and no sum is wrong.
 helped() {
     can "$1, mended" tshark editcap xxd || return 0
     sed -n 's/.* leave them out first by //p' output | sed 's/\bDUMP\b/'"$3"'/; s/\bIN\b/in.pcap/g; s/\bOUT\b/out.pcap/' > mend

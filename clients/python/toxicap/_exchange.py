@@ -56,7 +56,7 @@ def fault(number: int) -> OSError:
 
 
 def difference(side: str, known: int, more: bytes, recorded: bytes) -> Optional[str]:
-    """Where bytes that a side sends after so many others are not the recorded ones, in words."""
+    """Where bytes that a side sends after its first `known` ones are not the recorded ones, in words."""
     expected = recorded[known : known + len(more)]
     if more == expected:
         return None

@@ -19,8 +19,8 @@ from ._outputs import Connection, parse_report
 
 
 def judged(capture: bytes, dropped: int, probes: bool) -> Tuple[bytes, str, List[str]]:
-    """A recording of which the kernel dropped so many packets, perhaps without the connections that carry no byte; what it has, as toxicap reads it; and
-    why it is not whole, or of no use."""
+    """A recording of which the kernel dropped `dropped` packets, without the connections that carry no byte unless `probes` is true; what it has, as
+    toxicap reads it; and why it is not whole, or of no use."""
     found, left_out = parse_report(reports(capture, b"[]")[0]), ""
     if not probes:
         capture, before = without_probes(capture, found.connections), found.counts.connections

@@ -7,7 +7,7 @@ from ._explain import explain
 
 def faults_of(capture: bytes, scenarios: Sequence[bytes], hosts: bytes, seed: int, warns: int = 0) -> List[str]:
     """What makes scenarios do nothing, a line each: unknown fields, proxies that no connection meets, a capture without connections. Of toxics without
-    effect it warns, at the line of a caller so many calls above; 0 for none."""
+    effect it warns, at the line of the caller `warns` calls above; if that is 0, it does not warn."""
     found = explain(capture, scenarios, hosts, seed)
     for finding in found:
         if finding.is_warning and warns:

@@ -137,7 +137,7 @@ impl<'a> Search<'a> {
         self
     }
 
-    /// Calls the function by so many threads. The answer is the same.
+    /// Calls the function by this number of threads. The answer is the same.
     pub fn workers(mut self, workers: usize) -> Search<'a> {
         self.workers = workers;
         self

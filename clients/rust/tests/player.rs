@@ -41,7 +41,7 @@ fn connect(serving: &Serving) -> TcpStream {
     client
 }
 
-/// What a client gets for a request: so many bytes, or less at the end.
+/// What a client gets for a request: `size` bytes, or fewer at the end.
 fn ask(mut client: &TcpStream, request: &[u8], size: u64) -> String {
     client.write_all(request).unwrap();
     let mut found = String::new();

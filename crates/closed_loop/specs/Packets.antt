@@ -68,7 +68,7 @@ packet_by recorded own reset heard source m = record {
   pause = pause_of recorded own reset source m;
 }
 
--- a packet of these two packets before it, and of so many bytes
+-- the packet of member m, which follows the packets `own` and `reset` and waits for `heard` bytes
 abbrev pub packet_after : List (Option ℕ) → Bringers → Member → Member → Member → ℕ → Member → Packet
 packet_after recorded brought opening own reset heard m =
     packet_by recorded own reset heard (source_of (received m.from_client brought.up brought.down) opening.index heard) m

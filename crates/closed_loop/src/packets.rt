@@ -185,7 +185,7 @@ pub(crate) struct Making<'p> {
     pub(crate) recorded: &'p [Option<u64>],
 }
 
-// The packet of a member that waits for so many bytes.
+// The packet of a member that waits for `heard` bytes.
 fn packet_after(
     recorded: &[Option<u64>],
     brought: Bringers<'_>,

@@ -150,7 +150,7 @@ fn put(hearings: &mut Vec<Hearing>, i: usize, heard: Hearing) {
     }
 }
 
-/// Times that settle, by at most so many rounds.
+/// Times that settle within `rounds` rounds.
 pub(crate) fn find_settled(
     alloc: Global,
     study: &Study<'_, '_, '_>,

@@ -112,7 +112,7 @@ fn mark(taken: &mut Vec<bool>, number: u32)
     }
 }
 
-/// Which of so many records are of a connection.
+/// Which of `count` records are of a connection.
 pub(crate) fn taken_records(
     alloc: Global,
     count: usize,

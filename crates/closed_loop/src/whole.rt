@@ -159,7 +159,8 @@ fn outputs_of(
 /// as in the recording. `capture` has the bytes of a classic pcap file: a dump is not decoded here. `rounds` is the most rounds that it may take.
 ///
 /// # Errors
-/// `NoScenario`; then the faults of [`rehearse_alone`] on these arguments, as `Refused`; then `NotSettled`.
+/// `NoScenario`; then the faults of [`rehearse_alone`] on these arguments, as `Refused`. After these come `NotSettled` and `BadRecording`: no clause
+/// says when, only that a rehearsal takes the arguments.
 pub fn closed_loop(
     alloc: Global,
     capture: &[u8],
